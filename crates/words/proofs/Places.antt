@@ -1,0 +1,105 @@
+-- The machine's count of trailing zeros is α, and α of a difference modulo 2 ^ 64 is the first place in which
+-- the two numbers differ: a ≡ d + b there, so a and b agree in m places exactly when d is a multiple of 2 ^ m.
+-- And a mask of n ones keeps the low n bits.
+use mathlib.Core.Path.{_≡_, refl, sym, ap, _∙_, subst}
+use Prim.Native.Nat.{ℕ, zero, suc, _+_, _-_, _*_, _/_, _%_, _^_, _≤_, _<_}
+use native.Mathlib.Nat.{mod-one, mod-eq-of-lt, zero-mod, pow-suc, le-trans, lt-of-not-le}
+use native.Mathlib.Decide.{decLe, ℕ-discrete}
+use native.Mathlib.Omega.{arith}
+use lib.Arith.{mod-mul}
+use lib.Bits.{bitAnd, and-mask}
+use lib.Count.{trailingZeros, under, trailing-le, trailing-of-zero}
+use lib.Dec.{lit<}
+use lib.Pow.{pow-pos, ones-split, ones-lt, high}
+use Rattle.words.specs.Alpha.{Alpha, FirstDifference}
+use Rattle.words.proofs.Congruence.{Congruent, same-refl, same-regroup, same-sym, same-trans, same-result, same-add, same-add-cancel, same-lower}
+
+-- n modulo a power of two, by its lowest bit and the rest
+mod-double : (n k : ℕ) → n % 2 ^ suc k ≡ n / 2 % 2 ^ k * 2 + n % 2
+mod-double n k = ap (λ (m : ℕ). n % m) (pow-suc 2 k) ∙ mod-mul n (pow-pos k) (lit< tt)
+
+-- of k bits, r are zero below the lowest one bit of n
+record Trailing (k n r : ℕ) : Type 0 where
+  multiple : n % 2 ^ r ≡ 0
+  exact : r < k → n % 2 ^ suc r ≡ 0 → ⊥
+
+one-more : (k n d t : ℕ) → n % 2 ≡ d → Trailing k (n / 2) t → Trailing (suc k) n (under d t)
+one-more k n zero t e h =
+    record {
+      multiple = omega (arith, mod-double n t, h .multiple);
+      exact = λ l z. h .exact (omega arith) (omega (arith, mod-double n (suc t)));
+    }
+one-more k n (suc d) t e h = record { multiple = mod-one n; exact = λ l z. omega (arith, mod-double n 0) }
+
+trailing : (k n : ℕ) → Trailing k n (trailingZeros k n)
+unfolding trailingZeros
+trailing zero n = record { multiple = mod-one n; exact = λ l z. omega arith }
+trailing (suc k) n = one-more k n (n % 2) _ (mod-refl n) (trailing k (n / 2))
+  where
+    mod-refl : (n : ℕ) → n % 2 ≡ n % 2
+    mod-refl n = omega arith
+
+-- the machine's count at 64 bits
+pub trailing-alpha : (z : ℕ) → z < 2 ^ 64 → Alpha z (trailingZeros 64 z)
+trailing-alpha z h =
+    record {
+      multiple = t .multiple;
+      exact = λ nonzero. t .exact (lt-of-not-le (λ l. nonzero (whole l)));
+      at-zero = λ e. ap (λ (n : ℕ). trailingZeros 64 n) e ∙ trailing-of-zero 64;
+      small = trailing-le 64 z;
+    }
+  where
+    r : ℕ
+    r = trailingZeros 64 z
+
+    t : Trailing 64 z r
+    t = trailing 64 z
+
+    -- a number below 2 ^ 64 with 64 zeros is 0
+    whole : 64 ≤ r → z ≡ 0
+    whole l = sym (mod-eq-of-lt h) ∙ same-lower 64 l (record { same = t .multiple ∙ sym (zero-mod (2 ^ r)) }) .same ∙ zero-mod (2 ^ 64)
+
+-- a multiple of 2 ^ m, as a congruence
+multiple-of : {z : ℕ} (m : ℕ) → z % 2 ^ m ≡ 0 → Congruent (2 ^ m) z 0
+multiple-of m e = record { same = e ∙ sym (zero-mod (2 ^ m)) }
+
+-- α of the difference modulo 2 ^ 64
+pub alpha-difference : {a b d r : ℕ} → (d + b) % 2 ^ 64 ≡ a → Alpha d r → FirstDifference a b r
+alpha-difference {a} {b} {d} {r} e α =
+    record {
+      below = λ m l. agree m (same-lower m l (multiple-of r (α .multiple))) (le-trans l (α .small)) .same;
+      above = λ m l s. last m l s (decLe m r);
+    }
+  where
+    sum : (m : ℕ) → m ≤ 64 → Congruent (2 ^ m) a (d + b)
+    sum m l = same-lower m l (same-result (d + b) (sym e))
+
+    agree : (m : ℕ) → Congruent (2 ^ m) d 0 → m ≤ 64 → Congruent (2 ^ m) a b
+    agree m h l =
+        same-trans (sum m l) (same-regroup (same-add h (same-refl _ b)) refl (omega arith))
+
+    past : (m : ℕ) → m ≤ 64 → a % 2 ^ m ≡ b % 2 ^ m → r < m → Dec (d ≡ 0) → ⊥
+    past m l s g (yes z) = omega (arith, α .at-zero z)
+    past m l s g (no f) =
+        α .exact f
+        (same-lower (suc r) g
+        (same-add-cancel
+        (same-regroup (same-trans (same-sym (sum m l)) (record { same = s })) refl (omega arith))
+        (same-refl _ b)) .same ∙ zero-mod (2 ^ suc r))
+
+    last : (m : ℕ) → m ≤ 64 → a % 2 ^ m ≡ b % 2 ^ m → Dec (m ≤ r) → m ≤ r
+    last m l s (yes h) = h
+    last m l s (no f) = absurd (past m l s (lt-of-not-le f) (ℕ-discrete d 0))
+
+-- 64 ones shifted down to n are the mask of the low n bits
+pub mask-low : (x n : ℕ) → n ≤ 64 → bitAnd x ((2 ^ 64 - 1) / 2 ^ (64 - n)) ≡ x % 2 ^ n
+mask-low x n h = ap (bitAnd x) ones ∙ and-mask x n
+  where
+    k : ℕ
+    k = 64 - n
+
+    ones : (2 ^ 64 - 1) / 2 ^ k ≡ 2 ^ n - 1
+    ones =
+        ap (λ (j : ℕ). (2 ^ j - 1) / 2 ^ k) (let e : 64 ≡ n + k = omega arith in e)
+        ∙ ap (λ (m : ℕ). m / 2 ^ k) (ones-split n k)
+        ∙ high (2 ^ n - 1) k (ones-lt k)

@@ -1,0 +1,67 @@
+-- The refusal table by cases: what is known of a generator that is refused or accepted.
+use mathlib.Core.Path.{_≡_, refl, sym, _∙_, ap}
+use mathlib.Core.Bool.{Bool, true, false, not, cond, _||_, true≢false}
+use Prim.Native.Nat.{ℕ, zero, suc, _%_, _^_, _≤_, _<_}
+use native.Mathlib.Nat.{mod-eq-of-lt, mod-lt, lt-of-not-le, lt-of-lt-of-le}
+use native.Mathlib.Decide.{decLe}
+use native.Mathlib.Omega.{arith}
+use lib.Dec.{eqb, leb, ltb}
+use lib.Pow.{pow-pos}
+use borrow.Author.Tests.{eq-eqb, ne-eqb, le-leb, lt-leb, le-ltb, lt-ltb, leb-false, eqb-false, ltb-false}
+use Rattle.generator.specs.declared.Generator.{Generator}
+use Rattle.generator.specs.Refusals.{refusalOf, orElse, widthRefused, operandRefused, Valid}
+
+-- x has bits above the low n exactly when it is 2 ^ n or more
+pub exceeds-test : (n x : ℕ) → not (eqb (x % 2 ^ n) x) ≡ leb (2 ^ n) x
+exceeds-test n x =
+    elim (decLe (2 ^ n) x) [
+      | yes h ↦
+          ap not (ne-eqb (x % 2 ^ n) x (λ e. omega (arith, mod-lt x (pow-pos n)))) ∙ sym (le-leb (2 ^ n) x h)
+      | no f ↦
+          ap not (eq-eqb (x % 2 ^ n) x (mod-eq-of-lt (lt-of-not-le f))) ∙ sym (lt-leb (2 ^ n) x (lt-of-not-le f))
+    ]
+
+-- of a choice that gives 0, the refused case is not taken
+pub cond-none : (b : Bool) (n m : ℕ) → cond b (suc n) m ≡ 0 → (b ≡ false) × (m ≡ 0)
+cond-none true n m e = absurd (omega arith)
+cond-none false n m e = (refl, e)
+
+pub or-else-none : (n m : ℕ) → orElse n m ≡ 0 → (n ≡ 0) × (m ≡ 0)
+or-else-none zero m e = (refl, e)
+or-else-none (suc n) m e = absurd (omega arith)
+
+pub or-false : (a b : Bool) → (a || b) ≡ false → (a ≡ false) × (b ≡ false)
+or-false true b e = absurd (true≢false e)
+or-false false b e = (refl, e)
+
+-- a generator that is not refused is valid
+pub valid : (g : Generator) → refusalOf g ≡ 0 → Valid g
+unfolding refusalOf
+valid g e =
+    record {
+      width-low = omega (arith, eqb-false n 0 (width .0));
+      width-high = ltb-false 64 n (width .1);
+      multiplier-below = leb-false _ _ (operands .0);
+      increment-below = leb-false _ _ (others .0);
+      seed-below = leb-false _ _ (others .1);
+    }
+  where
+    n : ℕ
+    n = g .width
+
+    given : (widthRefused n ≡ false) × (_≡_ {A = ℕ} (cond (operandRefused g) 4 0) 0)
+    given = cond-none (widthRefused n) 2 (cond (operandRefused g) 4 0) e
+
+    width : (eqb n 0 ≡ false) × (ltb 64 n ≡ false)
+    width = or-false (eqb n 0) (ltb 64 n) (given .0)
+
+    P : ℕ
+    P = 2 ^ n
+
+    operands : (leb P (g .multiplier) ≡ false) × ((leb P (g .increment) || leb P (g .seed)) ≡ false)
+    operands =
+        or-false (leb P (g .multiplier)) (leb P (g .increment) || leb P (g .seed))
+        (cond-none (operandRefused g) 3 0 (given .1) .0)
+
+    others : (leb P (g .increment) ≡ false) × (leb P (g .seed) ≡ false)
+    others = or-false (leb P (g .increment)) (leb P (g .seed)) (operands .1)

@@ -1,0 +1,40 @@
+-- What an answer says, where a check accepts and where it refuses.
+use mathlib.Core.Path.{_≡_, refl, sym, ap, _∙_, subst}
+use Prim.Native.Nat.{ℕ, zero, suc}
+use native.Mathlib.Omega.{arith}
+use Rattle.generator.specs.declared.Refusal.{Refusal}
+use Rattle.generator.specs.declared.Refusal.the-variants.{WidthOutOfRange, OperandOutOfRange, ValueOutOfRange, NotInvertible}
+use Rattle.generator.specs.declared.Check.{Check}
+use Rattle.generator.specs.declared.Check.the-variants as verdict
+use Rattle.generator.specs.declared.ValueAnswer.the-variants as answer
+use Rattle.generator.specs.Refusals.{numberOf, checkNumber, orElse}
+use Rattle.generator.specs.Replies.{ValueReply, valueReply, valueOf}
+
+-- the number of a check that accepted, and of one that refused
+pub number-accepted : {r : Check} {n : ℕ} → checkNumber r ≡ n → r ≡ verdict.Accepted → n ≡ 0
+number-accepted e f = sym e ∙ ap checkNumber f
+
+pub number-refused : {r : Check} {x : Refusal} {n : ℕ} → checkNumber r ≡ n → r ≡ verdict.Refused x → numberOf x ≡ n
+number-refused e f = sym (ap checkNumber f) ∙ e
+
+-- a refusal's number is not 0
+number-suc : (x : Refusal) → (k : ℕ) × (numberOf x ≡ suc k)
+number-suc WidthOutOfRange = (2, refl)
+number-suc OperandOutOfRange = (3, refl)
+number-suc ValueOutOfRange = (5, refl)
+number-suc NotInvertible = (6, refl)
+
+pub number-nonzero : (x : Refusal) → numberOf x ≡ 0 → ⊥
+number-nonzero x e = let k = number-suc x in omega (arith, k .1)
+
+-- what is checked after a refusal changes nothing
+pub refused-first :
+    {r : Check} {x : Refusal} {n : ℕ} (m : ℕ) → checkNumber r ≡ n → r ≡ verdict.Refused x → checkNumber r ≡ orElse n m
+refused-first {x = x} m e f = let k = number-suc x in rw (← e, f, k .1)
+
+-- a refused answer has zeros beside the refusal's number
+pub value-refused : (x : Refusal) {n : ℕ} (v : ℕ) → numberOf x ≡ n → valueOf (answer.Refused x) ≡ valueReply n v
+value-refused x v e = let k = number-suc x in rw (← e, k .1)
+
+pub value-given : {n u : ℕ} (v : ℕ) → n ≡ 0 → u ≡ v → valueOf (answer.Value u) ≡ valueReply n v
+value-given v e f = rw (e, f)

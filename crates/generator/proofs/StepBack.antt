@@ -1,0 +1,119 @@
+-- One step is undone by an odd multiplier's inverse, and since an odd factor cancels nothing else steps to the same number.
+use mathlib.Core.Path.{_≡_, refl, sym, ap, _∙_}
+use mathlib.Core.Bool.{cond, false}
+use Prim.Native.Nat.{ℕ, zero, suc, _+_, _*_, _%_, _^_, _≤_, _<_}
+use native.Mathlib.Nat.{mod-eq-of-lt, mod-lt, le-of-lt, lt-of-lt-of-le}
+use native.Mathlib.Omega.{arith}
+use lib.Dec.{eqb, leb}
+use lib.Pow.{pow-pos, pow-mono}
+use borrow.Author.Tests.{eq-eqb, ne-eqb, leb-false, eqb-false}
+use Rattle.words.proofs.Congruence.{Congruent, same-refl, same-sym, same-trans, same-regroup, same-result, same-add, same-scale, same-lower, same-add-cancel, same-below, odd-cancel}
+use Rattle.generator.specs.declared.Generator.{Generator}
+use Rattle.generator.specs.declared.Refusal.{Refusal}
+use Rattle.generator.specs.declared.ValueAnswer.the-variants.{Value, Refused}
+use Rattle.generator.specs.Recurrence.{step}
+use Rattle.generator.specs.Refusals.{Valid, refusalOf, numberOf}
+use Rattle.generator.specs.Replies.{valueOf}
+use Rattle.generator.specs.Predecessor.{predecessorRefusal, predecessorOf, OnlyPredecessor, PredecessorPromise}
+use Rattle.generator.proofs.Least.{Least, least-unique}
+use Rattle.generator.proofs.Refusals.{valid, cond-none, or-else-none}
+use Rattle.generator.proofs.Replies.{number-nonzero, value-refused, value-given}
+
+-- the only predecessor is the least number that steps to y
+pub only-is-least : {g : Generator} {y z : ℕ} → OnlyPredecessor g y z → predecessorOf g y ≡ z
+unfolding predecessorOf
+only-is-least {g} {y} {z} o =
+    least-unique
+    (record {
+      within = le-of-lt (o .below);
+      holds = λ h. eq-eqb (step g z) y (o .steps);
+      first = λ j h. ne-eqb (step g j) y (λ e. omega (arith, o .only j (omega (arith, o .below)) e));
+    })
+
+-- two numbers below 2 ^ n with the same next number are equal
+pub step-injective :
+    (g : Generator) → g .multiplier % 2 ≡ 1 → {z w : ℕ} →
+    z < 2 ^ g .width →
+    w < 2 ^ g .width →
+    step g z ≡ step g w →
+    z ≡ w
+unfolding step
+step-injective g odd hz hw e =
+    same-below
+    (odd-cancel (g .multiplier) odd (g .width) (same-add-cancel (record { same = e }) (same-refl _ (g .increment))))
+    hz
+    hw
+
+-- the inverse times y - c, in the low n bits
+pub steps-back :
+    {g : Generator} (b d : ℕ) {p y z : ℕ} →
+    (Valid g) × (g .multiplier % 2 ≡ 1) × (y < 2 ^ g .width) →
+    g .multiplier * b % 2 ^ 64 ≡ 1 →
+    (d + g .increment) % 2 ^ 64 ≡ y →
+    p ≡ b * d % 2 ^ 64 →
+    z ≡ p % 2 ^ g .width →
+    OnlyPredecessor g y z
+unfolding step
+steps-back {g} b d {p} {y} {z} pre eb ed ep ez =
+    record {
+      below = below;
+      steps = steps;
+      only = λ w h e. step-injective g (pre .1) h below (e ∙ sym steps);
+    }
+  where
+    a : ℕ
+    a = g .multiplier
+
+    P : ℕ
+    P = 2 ^ g .width
+
+    low : {u w : ℕ} → Congruent (2 ^ 64) u w → Congruent P u w
+    low h = same-lower (g .width) (pre .0 .width-high) h
+
+    below : z < P
+    below = rw ez (mod-lt p (pow-pos (g .width)))
+
+    high : y < 2 ^ 64
+    high = lt-of-lt-of-le (pre .2) (pow-mono (pre .0 .width-high))
+
+    scaled : Congruent P (a * z) d
+    scaled =
+        same-trans (same-scale a (same-trans (same-result p ez) (low (same-result (b * d) ep))))
+        (same-regroup (same-scale {b = 1} d (low (record { same = eb }))) (omega arith) (omega arith))
+
+    steps : step g z ≡ y
+    steps =
+        same-trans (same-add scaled (same-refl P (g .increment))) (low (record { same = ed ∙ sym (mod-eq-of-lt high) })) .same
+        ∙ mod-eq-of-lt (pre .2)
+
+-- what the predecessor's refusals leave
+pub invertible :
+    (g : Generator) (y : ℕ) → predecessorRefusal g y ≡ 0 → (Valid g) × (g .multiplier % 2 ≡ 1) × (y < 2 ^ g .width)
+unfolding predecessorRefusal
+invertible g y e =
+    (valid g (both .0), omega (arith, eqb-false (g .multiplier % 2) 0 (parity .0)), leb-false _ _ (wide .0))
+  where
+    even : ℕ
+    even = cond (eqb (g .multiplier % 2) 0) 7 0
+
+    both : (refusalOf g ≡ 0) × (cond (leb (2 ^ g .width) y) 6 even ≡ 0)
+    both = or-else-none (refusalOf g) (cond (leb (2 ^ g .width) y) 6 even) e
+
+    wide : (leb (2 ^ g .width) y ≡ false) × (even ≡ 0)
+    wide = cond-none (leb (2 ^ g .width) y) 5 even (both .1)
+
+    parity : (eqb (g .multiplier % 2) 0 ≡ false) × (_≡_ {A = ℕ} 0 0)
+    parity = cond-none (eqb (g .multiplier % 2) 0) 6 0 (wide .1)
+
+-- the promise of the call, where it refuses and where it answers
+pub predecessor-refused :
+    (g : Generator) (y : ℕ) (x : Refusal) → numberOf x ≡ predecessorRefusal g y →
+    PredecessorPromise g y (valueOf (Refused x))
+predecessor-refused g y x e =
+    record { equals = value-refused x _ e; unique = λ z. absurd (number-nonzero x z) }
+
+pub predecessor-given :
+    (g : Generator) (y : ℕ) {z : ℕ} → predecessorRefusal g y ≡ 0 → OnlyPredecessor g y z →
+    PredecessorPromise g y (valueOf (Value z))
+predecessor-given g y e o =
+    record { equals = value-given _ e (sym (only-is-least o)); unique = λ z. o }

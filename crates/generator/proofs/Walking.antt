@@ -1,0 +1,107 @@
+-- The map of i steps followed by that of j steps is the map of i + j steps, and the map of i steps takes the seed to
+-- element i: keeping the low bits at each step or once at the end comes to the same.
+use mathlib.Core.Path.{_≡_, refl, sym, ap, _∙_, subst}
+use Prim.Native.Nat.{ℕ, zero, suc, _+_, _*_, _/_, _%_, _^_, _≤_, _<_}
+use native.Mathlib.Nat.{add-zero, add-suc, mod-eq-of-lt}
+use native.Mathlib.Omega.{arith}
+use Rattle.words.proofs.Congruence.{Congruent, same-refl, same-sym, same-trans, same-regroup, same-mod, same-result, same-add, same-scale, same-mul, same-lower, mod-lower}
+use Rattle.generator.specs.declared.Generator.{Generator}
+use Rattle.generator.specs.declared.linear.Affine.{Affine}
+use Rattle.generator.specs.Recurrence.{step, element}
+use Rattle.generator.specs.Refusals.{Valid}
+use Rattle.generator.specs.Affine.{apply, iterate, Walks, Composes}
+
+-- i steps and then j are i + j
+iterate-add : (a c i j x : ℕ) → iterate a c (i + j) x ≡ iterate a c j (iterate a c i x)
+unfolding iterate
+iterate-add a c i zero x = ap (λ (k : ℕ). iterate a c k x) (add-zero i)
+iterate-add a c i (suc j) x =
+    ap (λ (k : ℕ). iterate a c k x) (add-suc i j) ∙ ap (λ (y : ℕ). a * y + c) (iterate-add a c i j x)
+
+-- a map takes congruent numbers to congruent numbers, and so do i steps
+same-affine : {m x y : ℕ} (a c : ℕ) → Congruent m x y → Congruent m (a * x + c) (a * y + c)
+same-affine {m} a c h = same-add (same-scale a h) (same-refl m c)
+
+same-iterate : {m x y : ℕ} (a c i : ℕ) → Congruent m x y → Congruent m (iterate a c i x) (iterate a c i y)
+unfolding iterate
+same-iterate a c zero h = h
+same-iterate a c (suc i) h = same-affine a c (same-iterate a c i h)
+
+-- the product of the factors, and the second map's value at the first one's offset
+pub composed :
+    (first second r : Affine) →
+    r .factor ≡ second .factor * first .factor % 2 ^ 64 →
+    r .offset ≡ apply second (first .offset) % 2 ^ 64 →
+    Composes first second r
+composed first second r e f =
+    record {
+      composes =
+          λ x.
+          same-regroup {t = apply second (apply first x)}
+          (same-add (same-mul (same-result _ e) (same-refl (2 ^ 64) x)) (same-result _ f))
+          refl
+          (omega arith) .same;
+    }
+
+-- a map of i steps followed by one of j steps is a map of i + j steps
+walks-add :
+    {a c i j : ℕ} {first second r : Affine} →
+    Walks a c i first →
+    Walks a c j second →
+    Composes first second r →
+    Walks a c (i + j) r
+walks-add {a} {c} {i} {j} {first} {second} f g h =
+    record {
+      walks =
+          λ x.
+          h .composes x ∙ g .walks (apply first x)
+          ∙ same-iterate a c j (record { same = f .walks x }) .same
+          ∙ ap (λ (y : ℕ). y % 2 ^ 64) (sym (iterate-add a c i j x));
+    }
+
+-- no step
+pub walks-none : (a c : ℕ) → Walks a c 0 (record { factor = 1; offset = 0 })
+unfolding iterate
+walks-none a c = record { walks = λ x. ap (λ (y : ℕ). y % 2 ^ 64) (omega arith) }
+
+-- one step
+walks-one : (a c : ℕ) → Walks a c 1 (record { factor = a; offset = c })
+unfolding iterate
+walks-one a c = record { walks = λ x. refl }
+
+-- the map of i steps from that of half of i: twice, and one step more where i is odd
+walks-as : {a c i j : ℕ} {f : Affine} → i ≡ j → Walks a c i f → Walks a c j f
+walks-as {a} {c} {f = f} e w = subst (λ (k : ℕ). Walks a c k f) e w
+
+pub walks-even :
+    {a c : ℕ} (i : ℕ) {half r : Affine} → Walks a c (i / 2) half → Composes half half r → i % 2 ≡ 0 → Walks a c i r
+walks-even i w h even = walks-as (omega arith) (walks-add w w h)
+
+pub walks-odd :
+    {a c : ℕ} (i : ℕ) {half twice r : Affine} →
+    Walks a c (i / 2) half →
+    Composes half half twice →
+    Composes twice (record { factor = a; offset = c }) r →
+    (i % 2 ≡ 0 → ⊥) →
+    Walks a c i r
+walks-odd {a} {c} i w h k odd = walks-as (omega arith) (walks-add (walks-add w w h) (walks-one a c) k)
+
+-- i steps from the seed, reduced once at the end
+pub element-iterate :
+    (g : Generator) → g .seed < 2 ^ g .width → (i : ℕ) →
+    element g i ≡ iterate (g .multiplier) (g .increment) i (g .seed) % 2 ^ g .width
+unfolding element step iterate
+element-iterate g h zero = sym (mod-eq-of-lt h)
+element-iterate g h (suc i) =
+    same-affine (g .multiplier) (g .increment) (same-result _ (element-iterate g h i)) .same
+
+-- the map of i steps at the seed, and then the low bits
+pub element-walks :
+    {g : Generator} {i x : ℕ} {f : Affine} →
+    Valid g →
+    Walks (g .multiplier) (g .increment) i f →
+    x ≡ apply f (g .seed) % 2 ^ 64 →
+    x % 2 ^ g .width ≡ element g i
+element-walks {g} {i} v w e =
+    same-lower (g .width) (v .width-high) (same-trans (same-result _ e) (record { same = w .walks (g .seed) })) .same
+    ∙ sym (element-iterate g (v .seed-below) i)

@@ -1,0 +1,42 @@
+-- `generator::predecessor` meets its contract.
+use borrow.Author.Needs.{needs}
+use Rattle.generator.proofs.Replies.{number-accepted, number-refused}
+use Rattle.generator.proofs.StepBack.{invertible, predecessor-refused, predecessor-given}
+use Rattle.generator.proofs.predecessor.Statement.{statement}
+use Rattle.generator.proofs.predecessor.Tie as tie
+
+predecessor-checked-requires : tie.Need-predecessor-checked-requires
+predecessor-checked-requires c κs = search needs
+
+enum-known-verdict : tie.Need-enum-known-verdict
+enum-known-verdict c = search needs
+
+returns : tie.Need-returns
+returns c =
+    let verdict = c .before .verdict .given in
+    predecessor-refused _ _ (verdict .0 .0)
+    (number-refused (c .before .before .before .predecessor-checked .ensures) (verdict .1))
+
+enum-told : tie.Need-enum-told
+enum-told c = search needs
+
+step-back-requires : tie.Need-step-back-requires
+step-back-requires c κs =
+    invertible _ _ (number-accepted (c .before .before .predecessor-checked .ensures) (c .enum-told .given .1))
+
+returns-2 : tie.Need-returns-2
+returns-2 c =
+    predecessor-given _ _
+    (number-accepted (c .before .before .before .predecessor-checked .ensures) (c .before .enum-told .given .1))
+    (c .step-back .ensures)
+
+pub predecessor-spec : {M : Type 1} → statement M
+predecessor-spec =
+    tie.close
+    (tie.spec
+    predecessor-checked-requires
+    enum-known-verdict
+    returns
+    enum-told
+    step-back-requires
+    returns-2)

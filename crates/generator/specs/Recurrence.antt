@@ -1,0 +1,12 @@
+-- The generator of document 01, by its recurrence.
+use Prim.Native.Nat.{ℕ, zero, suc, _+_, _*_, _%_, _^_}
+use Rattle.generator.specs.declared.Generator.{Generator}
+
+-- One step: multiply, add, keep the low bits.
+unfoldable pub step : Generator → ℕ → ℕ
+step g x = (g .multiplier * x + g .increment) % 2 ^ g .width
+
+-- What index i yields.
+unfoldable pub element : Generator → ℕ → ℕ
+element g zero = g .seed
+element g (suc i) = step g (element g i)

@@ -1,0 +1,121 @@
+// The calls on one generator. Any four numbers and any index have their answer.
+ghost use mathlib.Core.Path.{_≡_};
+ghost use Prim.Native.Nat.{_^_, _≤_};
+ghost use lib.Dec.{leb};
+ghost use Rattle.generator.specs.Recurrence as recurrence;
+ghost use Rattle.generator.specs.Refusals.{checkNumber, refusalOf};
+ghost use Rattle.generator.specs.Replies.{valueOf, valueReply};
+ghost use Rattle.generator.specs.Predecessor.{predecessorRefusal, PredecessorPromise};
+ghost use Rattle.generator.specs.Customary.{CustomaryPromise};
+use words::bits::low_bits;
+
+pub mod customary;
+pub mod linear;
+
+pub struct Generator {
+    pub width: u64,
+    pub multiplier: u64,
+    pub increment: u64,
+    pub seed: u64,
+}
+
+// Why a call declines; specs/Refusals.antt has document 01's numbers.
+pub enum Refusal {
+    WidthOutOfRange,
+    OperandOutOfRange,
+    ValueOutOfRange,
+    NotInvertible,
+}
+
+pub enum Check {
+    Accepted,
+    Refused(Refusal),
+}
+
+pub enum ValueAnswer {
+    Value(u64),
+    Refused(Refusal),
+}
+
+// Whether x is 2^n or more.
+fn exceeds(x: u64, n: u64) -> bool
+    requires { ⌜ (1 ≤ n) × (n ≤ 64) ⌝ }
+    ensures { λ r. ⌜ r ≡ leb (2 ^ n) x ⌝ }
+{
+    low_bits(x, n) != x
+}
+
+// The conditions that every call on a generator checks first.
+pub fn checked(g: Generator) -> Check
+    ensures { λ r. ⌜ checkNumber r ≡ refusalOf g ⌝ }
+{
+    let n = g.width;
+    if n == 0 {
+        return Check::Refused(Refusal::WidthOutOfRange);
+    }
+    if 64 < n {
+        return Check::Refused(Refusal::WidthOutOfRange);
+    }
+    if exceeds(g.multiplier, n) {
+        return Check::Refused(Refusal::OperandOutOfRange);
+    }
+    if exceeds(g.increment, n) {
+        return Check::Refused(Refusal::OperandOutOfRange);
+    }
+    if exceeds(g.seed, n) {
+        return Check::Refused(Refusal::OperandOutOfRange);
+    }
+    Check::Accepted
+}
+
+// Element i of a generator.
+pub fn element(g: Generator, index: u64) -> ValueAnswer
+    ensures { λ r. ⌜ valueOf r ≡ valueReply (refusalOf g) (recurrence.element g index) ⌝ }
+{
+    let verdict = checked(g);
+    if let Check::Refused(refusal) = verdict {
+        return ValueAnswer::Refused(refusal);
+    }
+    ValueAnswer::Value(linear::element_at(g, index))
+}
+
+// The conditions of the predecessor call.
+fn predecessor_checked(g: Generator, value: u64) -> Check
+    ensures { λ r. ⌜ checkNumber r ≡ predecessorRefusal g value ⌝ }
+{
+    let verdict = checked(g);
+    if let Check::Refused(_) = verdict {
+        return verdict;
+    }
+    if exceeds(value, g.width) {
+        return Check::Refused(Refusal::ValueOutOfRange);
+    }
+    if g.multiplier % 2 == 0 {
+        return Check::Refused(Refusal::NotInvertible);
+    }
+    Check::Accepted
+}
+
+// The only number that one step takes to `value`.
+pub fn predecessor(g: Generator, value: u64) -> ValueAnswer
+    ensures { λ r. ⌜ PredecessorPromise g value (valueOf r) ⌝ }
+{
+    let verdict = predecessor_checked(g, value);
+    if let Check::Refused(refusal) = verdict {
+        return ValueAnswer::Refused(refusal);
+    }
+    ValueAnswer::Value(linear::step_back(g, value))
+}
+
+// The customary multiplier of a width.
+pub fn customary_multiplier(width: u64) -> ValueAnswer
+    ensures { λ r. ⌜ CustomaryPromise width (valueOf r) ⌝ }
+{
+    if width < 3 {
+        return ValueAnswer::Refused(Refusal::WidthOutOfRange);
+    }
+    if 64 < width {
+        return ValueAnswer::Refused(Refusal::WidthOutOfRange);
+    }
+    ValueAnswer::Value(customary::multiplier(width))
+}

@@ -1,0 +1,1 @@
+// Laws of sequences of numbers, and no code: see proofs/.

@@ -18,7 +18,7 @@ pub number-refused : {r : Check} {x : Refusal} {n : ℕ} → checkNumber r ≡ n
 number-refused e f = sym (ap checkNumber f) ∙ e
 
 -- a refusal's number is not 0
-number-suc : (x : Refusal) → (k : ℕ) × (numberOf x ≡ suc k)
+pub number-suc : (x : Refusal) → (k : ℕ) × (numberOf x ≡ suc k)
 number-suc WidthOutOfRange = (2, refl)
 number-suc OperandOutOfRange = (3, refl)
 number-suc ValueOutOfRange = (5, refl)

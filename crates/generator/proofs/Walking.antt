@@ -19,10 +19,10 @@ iterate-add a c i (suc j) x =
     ap (λ (k : ℕ). iterate a c k x) (add-suc i j) ∙ ap (λ (y : ℕ). a * y + c) (iterate-add a c i j x)
 
 -- a map takes congruent numbers to congruent numbers, and so do i steps
-same-affine : {m x y : ℕ} (a c : ℕ) → Congruent m x y → Congruent m (a * x + c) (a * y + c)
+pub same-affine : {m x y : ℕ} (a c : ℕ) → Congruent m x y → Congruent m (a * x + c) (a * y + c)
 same-affine {m} a c h = same-add (same-scale a h) (same-refl m c)
 
-same-iterate : {m x y : ℕ} (a c i : ℕ) → Congruent m x y → Congruent m (iterate a c i x) (iterate a c i y)
+pub same-iterate : {m x y : ℕ} (a c i : ℕ) → Congruent m x y → Congruent m (iterate a c i x) (iterate a c i y)
 unfolding iterate
 same-iterate a c zero h = h
 same-iterate a c (suc i) h = same-affine a c (same-iterate a c i h)
@@ -44,7 +44,7 @@ composed first second r e f =
     }
 
 -- a map of i steps followed by one of j steps is a map of i + j steps
-walks-add :
+pub walks-add :
     {a c i j : ℕ} {first second r : Affine} →
     Walks a c i first →
     Walks a c j second →
@@ -65,12 +65,12 @@ unfolding iterate
 walks-none a c = record { walks = λ x. ap (λ (y : ℕ). y % 2 ^ 64) (omega arith) }
 
 -- one step
-walks-one : (a c : ℕ) → Walks a c 1 (record { factor = a; offset = c })
+pub walks-one : (a c : ℕ) → Walks a c 1 (record { factor = a; offset = c })
 unfolding iterate
 walks-one a c = record { walks = λ x. refl }
 
 -- the map of i steps from that of half of i: twice, and one step more where i is odd
-walks-as : {a c i j : ℕ} {f : Affine} → i ≡ j → Walks a c i f → Walks a c j f
+pub walks-as : {a c i j : ℕ} {f : Affine} → i ≡ j → Walks a c i f → Walks a c j f
 walks-as {a} {c} {f = f} e w = subst (λ (k : ℕ). Walks a c k f) e w
 
 pub walks-even :

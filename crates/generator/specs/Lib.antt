@@ -1,9 +1,11 @@
--- What the contracts of this crate cite. `Least`, `Recurrence`, `Refusals`, `Replies`, `Predecessor` and `Customary` are
--- all that has to be believed of the calls. `Affine` is cited by functions behind them only.
+-- What the contracts of this crate cite. All but `Affine` is what has to be believed of the calls; `Affine`, and `Located`,
+-- `Absent` and `PositionIs` at the end of `Index`, are cited only by functions behind them.
 pub mod Least
 pub mod Recurrence
 pub mod Refusals
 pub mod Replies
+pub mod Orbit
+pub mod Index
 pub mod Predecessor
 pub mod Customary
 pub mod Affine

@@ -5,12 +5,17 @@ ghost use lib.Dec.{leb};
 ghost use Rattle.generator.specs.Recurrence as recurrence;
 ghost use Rattle.generator.specs.Refusals.{checkNumber, refusalOf};
 ghost use Rattle.generator.specs.Replies.{valueOf, valueReply};
+ghost use Rattle.generator.specs.Orbit.{OrbitPromise, orbitOf};
+ghost use Rattle.generator.specs.Index.{IndexPromise, replyOf};
 ghost use Rattle.generator.specs.Predecessor.{predecessorRefusal, PredecessorPromise};
 ghost use Rattle.generator.specs.Customary.{CustomaryPromise};
+use search::Position;
 use words::bits::low_bits;
 
 pub mod customary;
 pub mod linear;
+pub mod periods;
+pub mod search;
 
 pub struct Generator {
     pub width: u64,
@@ -34,6 +39,17 @@ pub enum Check {
 
 pub enum ValueAnswer {
     Value(u64),
+    Refused(Refusal),
+}
+
+pub enum OrbitAnswer {
+    Orbit { preperiod: u64, exponent: u64 },
+    Refused(Refusal),
+}
+
+pub enum IndexAnswer {
+    At(u64),
+    Never,
     Refused(Refusal),
 }
 
@@ -77,6 +93,41 @@ pub fn element(g: Generator, index: u64) -> ValueAnswer
         return ValueAnswer::Refused(refusal);
     }
     ValueAnswer::Value(linear::element_at(g, index))
+}
+
+// The preperiod and the period of a generator.
+pub fn orbit(g: Generator) -> OrbitAnswer
+    ensures { λ r. ⌜ OrbitPromise g (orbitOf r) ⌝ }
+{
+    let verdict = checked(g);
+    if let Check::Refused(refusal) = verdict {
+        return OrbitAnswer::Refused(refusal);
+    }
+    if g.multiplier % 2 == 0 {
+        return OrbitAnswer::Orbit {
+            preperiod: periods::preperiod(g),
+            exponent: 0,
+        };
+    }
+    OrbitAnswer::Orbit {
+        preperiod: 0,
+        exponent: periods::exponent(g),
+    }
+}
+
+// The least index that yields `value`, or never.
+pub fn index(g: Generator, value: u64) -> IndexAnswer
+    ensures { λ r. ⌜ IndexPromise g value (replyOf r) ⌝ }
+{
+    let verdict = checked(g);
+    if let Check::Refused(refusal) = verdict {
+        return IndexAnswer::Refused(refusal);
+    }
+    let position = search::position_of(g, value);
+    match position {
+        Position::At(k) => IndexAnswer::At(k),
+        Position::Never => IndexAnswer::Never,
+    }
 }
 
 // The conditions of the predecessor call.

@@ -94,7 +94,8 @@ mod-two s = go (s % 2) (omega arith)
     go (suc zero) h = inr refl
     go (suc (suc r)) h = absurd (omega arith)
 
-even-half : (s p : ℕ) → s % 2 ≡ 0 → s / 2 * (p + p) ≡ s * p
+-- half of an even number, twice
+pub even-half : (s p : ℕ) → s % 2 ≡ 0 → s / 2 * (p + p) ≡ s * p
 even-half s p h = let e : s / 2 + s / 2 ≡ s = omega arith in omega (arith, ap (λ (t : ℕ). t * p) e)
 
 -- one place further: the inverse stays where the quotients' sum is even, and gains 2 ^ k where it is odd

@@ -1,5 +1,5 @@
--- `Congruence` is for every crate above. The other files are this crate's own step laws.
+-- `Congruence` and `Places` are for the crates above. The other files are this crate's own step laws.
 pub mod Congruence
+pub mod Places
 mod Halves
-mod Places
 mod Iteration

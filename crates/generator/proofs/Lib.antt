@@ -11,3 +11,4 @@ pub mod StepBack
 mod Table
 mod OddPowers
 mod Examples
+pub mod WorkedRuns

@@ -1,15 +1,15 @@
 -- The definitions of preperiod and period find what the orbit means, wherever it lies below their bound. And the orbit of
 -- a linear generator: with an odd multiplier it is periodic from the start, with an even one it comes to rest.
 use mathlib.Core.Path.{_≡_, refl, sym, ap, _∙_}
-use mathlib.Core.Bool.{true, false}
-use Prim.Native.Nat.{ℕ, zero, suc, _+_, _-_, _*_, _/_, _%_, _^_, _≤_, _<_}
+use mathlib.Core.Bool.{Bool}
+use Prim.Native.Nat.{ℕ, zero, suc, _+_, _-_, _*_, _/_, _%_, _^_, _≤_, _<_, suc-le-suc}
 use native.Mathlib.Nat.{le-of-lt, le-refl, le-trans, le-antisymm, lt-of-not-le, lt-of-le-of-lt, lt-of-lt-of-le}
 use native.Mathlib.Decide.{decLe}
 use native.Mathlib.Numerals.{add-one}
 use native.Mathlib.Omega.{arith}
 use lib.Dec.{eqb, ltb, lit≤}
 use lib.Pow.{pow-pos, pow-lt, pow-mono}
-use borrow.Author.Tests.{eq-eqb, ne-eqb, lt-ltb, le-ltb, eqb-true}
+use borrow.Author.Tests.{eq-eqb, ne-eqb, lt-ltb, le-ltb, eqb-true, eqb-false}
 use Rattle.words.specs.Alpha.{Alpha, FirstDifference}
 use Rattle.sequences.proofs.Agreement.{Agree, FirstDiffer, Reduced, agree-of-eq, reduced-eq}
 use Rattle.sequences.proofs.Isometric.{Isometric, exponent, exponent-le, exponent-stays, exponent-doubles, returns, returns-first}
@@ -32,11 +32,11 @@ use Rattle.generator.specs.Orbit.{
   orbitReply,
   OrbitPromise,
 }
-use Rattle.generator.proofs.Least.{Least, least-least, least-unique}
+use Rattle.generator.proofs.Least.{Least, least-least, least-below, least-unique}
 use Rattle.generator.proofs.Refusals.{valid}
 use Rattle.generator.proofs.Replies.{number-suc, number-nonzero}
 use Rattle.generator.proofs.Walking.{walks-one}
-use Rattle.generator.proofs.Elements.{reduced, isometric, scaling}
+use Rattle.generator.proofs.Elements.{reduced, isometric, scaling, contracting}
 use Rattle.generator.proofs.Places.{lt-two-pow, seed-held, held-ahead, walks-double, places-agree, places-differ}
 
 module _ {x : ℕ → ℕ} {t P bound : ℕ} (o : IsOrbit x t P) (lt : t < bound) (lP : P ≤ bound) where
@@ -150,6 +150,36 @@ module _ {g : Generator} {v w next : ℕ} (pre : (Valid g) × (g .multiplier % 2
         rest = reduced-eq (reduced (pre .0)) 1 0 (places-agree one-held (seed-held g) d (le-refl (g .width)) l);
         moves = λ i h. absurd (omega arith);
       })
+
+-- where it rests: an even multiplier always does, at n at the latest
+resting : {n : ℕ} {x : ℕ → ℕ} → Contracting n x → Reduced n x → (t : ℕ) × Rests x t
+resting {n} {x} con red = (
+  t,
+  record {
+    rest = eqb-true _ _ (l .holds (suc-le-suc (least-below l n (eq-eqb (x (suc n)) (x n) (last-rest con red)))));
+    moves = λ i h. eqb-false (x (suc i)) (x i) (l .first i h);
+  },
+)
+  where
+    still : ℕ → Bool
+    still i = eqb (x (suc i)) (x i)
+
+    t : ℕ
+    t = least still (suc n)
+
+    l : Least still (suc n) t
+    l = least-least still (suc n)
+
+-- so the period as defined is 1, or with an odd multiplier the power of two found
+pub even-period : {g : Generator} → Valid g → g .multiplier % 2 ≡ 0 → (0 ≤ g .width) × (periodOf (element g) (2 ^ g .width) ≡ 2 ^ 0)
+even-period {g} v even =
+    let r = resting (contracting v even) (reduced v) in
+    let o = rest-orbit (contracting v even) (reduced v) (r .1) in
+    (omega arith, period-is (o .1) (lt-of-le-of-lt (o .0) (lt-two-pow (g .width))) (pow-pos (g .width)))
+
+pub odd-period : (g : Generator) {e : ℕ} → (e ≤ g .width) × IsOrbit (element g) 0 (2 ^ e) →
+    (e ≤ g .width) × (periodOf (element g) (2 ^ g .width) ≡ 2 ^ e)
+odd-period g o = (o .0, period-is (o .1) (pow-pos (g .width)) (pow-mono (o .0)))
 
 -- The loop that raises the exponent of an odd multiplier's period: m places done, the period in them is 2 ^ e.
 pub record Rising (g : Generator) (m e : ℕ) (map : Affine) : Type 0 where

@@ -3,7 +3,16 @@ use mathlib.Core.Path.{_≡_, refl, sym, ap, _∙_, subst}
 use Prim.Native.Nat.{ℕ, zero, suc}
 use native.Mathlib.Omega.{arith}
 use Rattle.generator.specs.declared.Refusal.{Refusal}
-use Rattle.generator.specs.declared.Refusal.the-variants.{WidthOutOfRange, OperandOutOfRange, ValueOutOfRange, NotInvertible}
+use Rattle.generator.specs.declared.Refusal.the-variants.{
+  ArchiveTooLong,
+  MalformedLine,
+  WidthOutOfRange,
+  OperandOutOfRange,
+  RunOutOfRange,
+  ValueOutOfRange,
+  NotInvertible,
+  BufferTooShort,
+}
 use Rattle.generator.specs.declared.Check.{Check}
 use Rattle.generator.specs.declared.Check.the-variants as verdict
 use Rattle.generator.specs.declared.ValueAnswer.the-variants as answer
@@ -19,18 +28,25 @@ number-refused e f = sym (ap checkNumber f) ∙ e
 
 -- a refusal's number is not 0
 pub number-suc : (x : Refusal) → (k : ℕ) × (numberOf x ≡ suc k)
+number-suc ArchiveTooLong = (0, refl)
+number-suc MalformedLine = (1, refl)
 number-suc WidthOutOfRange = (2, refl)
 number-suc OperandOutOfRange = (3, refl)
+number-suc RunOutOfRange = (4, refl)
 number-suc ValueOutOfRange = (5, refl)
 number-suc NotInvertible = (6, refl)
+number-suc BufferTooShort = (7, refl)
 
 pub number-nonzero : (x : Refusal) → numberOf x ≡ 0 → ⊥
 number-nonzero x e = let k = number-suc x in omega (arith, k .1)
 
 -- what is checked after a refusal changes nothing
+pub refused-else : (x : Refusal) {n : ℕ} (m : ℕ) → numberOf x ≡ n → numberOf x ≡ orElse n m
+refused-else x m e = let k = number-suc x in rw (← e, k .1)
+
 pub refused-first :
     {r : Check} {x : Refusal} {n : ℕ} (m : ℕ) → checkNumber r ≡ n → r ≡ verdict.Refused x → checkNumber r ≡ orElse n m
-refused-first {x = x} m e f = let k = number-suc x in rw (← e, f, k .1)
+refused-first {x = x} m e f = ap checkNumber f ∙ refused-else x m (number-refused e f)
 
 -- a refused answer has zeros beside the refusal's number
 pub value-refused : (x : Refusal) {n : ℕ} (v : ℕ) → numberOf x ≡ n → valueOf (answer.Refused x) ≡ valueReply n v

@@ -8,4 +8,5 @@ pub mod Orbit
 pub mod Index
 pub mod Predecessor
 pub mod Customary
+pub mod WorkedRuns
 pub mod Affine

@@ -4,15 +4,28 @@ use Prim.Native.Nat.{ℕ, zero, suc, _^_, _≤_, _<_}
 use lib.Dec.{eqb, leb, ltb}
 use Rattle.generator.specs.declared.Generator.{Generator}
 use Rattle.generator.specs.declared.Refusal.{Refusal}
-use Rattle.generator.specs.declared.Refusal.the-variants.{WidthOutOfRange, OperandOutOfRange, ValueOutOfRange, NotInvertible}
+use Rattle.generator.specs.declared.Refusal.the-variants.{
+  ArchiveTooLong,
+  MalformedLine,
+  WidthOutOfRange,
+  OperandOutOfRange,
+  RunOutOfRange,
+  ValueOutOfRange,
+  NotInvertible,
+  BufferTooShort,
+}
 use Rattle.generator.specs.declared.Check.{Check}
 use Rattle.generator.specs.declared.Check.the-variants.{Accepted, Refused}
 
 abbrev pub numberOf : Refusal → ℕ
+numberOf ArchiveTooLong = 1
+numberOf MalformedLine = 2
 numberOf WidthOutOfRange = 3
 numberOf OperandOutOfRange = 4
+numberOf RunOutOfRange = 5
 numberOf ValueOutOfRange = 6
 numberOf NotInvertible = 7
+numberOf BufferTooShort = 8
 
 -- The number that a check gives, 0 where it accepts.
 abbrev pub checkNumber : Check → ℕ

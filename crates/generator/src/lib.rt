@@ -26,10 +26,14 @@ pub struct Generator {
 
 // Why a call declines; specs/Refusals.antt has document 01's numbers.
 pub enum Refusal {
+    ArchiveTooLong,
+    MalformedLine,
     WidthOutOfRange,
     OperandOutOfRange,
+    RunOutOfRange,
     ValueOutOfRange,
     NotInvertible,
+    BufferTooShort,
 }
 
 pub enum Check {

@@ -3,7 +3,7 @@ ghost use mathlib.Core.Path.{_≡_};
 ghost use Prim.Native.Nat.{_+_, _%_, _^_, _≤_};
 ghost use Rattle.generator.specs.Recurrence.{element};
 ghost use Rattle.generator.specs.Refusals.{Valid};
-ghost use Rattle.generator.specs.Orbit.{IsOrbit};
+ghost use Rattle.generator.specs.Orbit.{IsOrbit, periodOf};
 use crate::Generator;
 use crate::linear::Affine;
 use crate::linear::compose;
@@ -54,4 +54,15 @@ pub fn preperiod(g: Generator) -> u64
         return 0;
     }
     (n - place + v - 1) / v
+}
+
+// The exponent of the period, for every multiplier: 0 where it is even.
+pub fn period_exponent(g: Generator) -> u64
+    requires { ⌜ Valid g ⌝ }
+    ensures { λ r. ⌜ (r ≤ g .width) × (periodOf (element g) (2 ^ g .width) ≡ 2 ^ r) ⌝ }
+{
+    if g.multiplier % 2 == 0 {
+        return 0;
+    }
+    exponent(g)
 }

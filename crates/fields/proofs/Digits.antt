@@ -1,0 +1,246 @@
+-- Laws of `digitsOf`. A number below 10 is one digit, and v * 10 + d, for v not 0, is the digits of v and then d: by these
+-- two rules each law is an induction over the digits. The main tool is `scan`, which reads the digits at the front of any
+-- bytes. In the digits of v, followed by no further digit, it finds v and what follows; so the two are determined.
+use mathlib.Core.Path.{_≡_, refl, sym, ap, _∙_, subst, subst₂}
+use mathlib.Core.Bool.{Bool, true, false, cond, _&&_}
+use mathlib.Core.List.{List, [], _∷_, _++_, append-assoc, append-nil}
+use mathlib.Core.List.{List·Memᴰ, List·Memᴰ·head, List·Memᴰ·tail, List·Memᴰ·append-cases, List·Memᴰ·eq-of-singleton}
+use mathlib.Core.Logic.{⊎-elim, by-cases}
+use Prim.Native.Nat.{ℕ, zero, suc, _+_, _*_, _/_, _%_, _^_, _-_, _≤_, _<_}
+use native.Mathlib.Omega.{arith}
+use native.Mathlib.Decide.{decLt}
+use lib.Dec.{leb}
+use lib.ListN.{length, getD, drop, length-append}
+use borrow.Author.Tests.{lt-ltb, le-ltb, le-leb, lt-leb}
+use Rattle.fields.specs.Digits.{lastDigits, digitsOf}
+
+-- The two rules.
+
+one-digit : (k n : ℕ) → n < 10 → lastDigits (suc k) n ≡ (48 + n) ∷ []
+unfolding lastDigits
+one-digit k n h = rw (lt-ltb n 10 h, lastDigits)
+
+more-digits : (k n : ℕ) → 10 ≤ n → lastDigits (suc k) n ≡ lastDigits k (n / 10) ++ ((48 + n % 10) ∷ [])
+unfolding lastDigits
+more-digits k n h = rw (le-ltb n 10 h, lastDigits)
+
+-- n < k is enough for all digits
+enough : (k j n : ℕ) → n < k → n < j → lastDigits k n ≡ lastDigits j n
+enough zero j n h g = absurd (omega arith)
+enough (suc k) zero n h g = absurd (omega arith)
+enough (suc k) (suc j) n h g =
+    by-cases (decLt n 10)
+    (λ one. one-digit k n one ∙ sym (one-digit j n one))
+    (λ more. more-digits k n (omega arith)
+    ∙ ap (λ (ds : List ℕ). ds ++ ((48 + n % 10) ∷ [])) (enough k j (n / 10) (omega arith) (omega arith))
+    ∙ sym (more-digits j n (omega arith)))
+
+pub digits-one : (d : ℕ) → d < 10 → digitsOf d ≡ (48 + d) ∷ []
+unfolding digitsOf
+digits-one d h = one-digit d d h
+
+pub digits-last : (n : ℕ) → 9 < n → digitsOf n ≡ digitsOf (n / 10) ++ ((48 + n % 10) ∷ [])
+unfolding digitsOf
+digits-last n h =
+    more-digits n n h
+    ∙ ap (λ (ds : List ℕ). ds ++ ((48 + n % 10) ∷ [])) (enough n (suc (n / 10)) (n / 10) (omega arith) (omega arith))
+
+-- what holds of each single digit, and with v of v * 10 + d, holds of every number and its digits
+digits-induction :
+    (P : ℕ → List ℕ → Type 0)
+    → ((d : ℕ) → d < 10 → P d ((48 + d) ∷ []))
+    → ((v d : ℕ) → 0 < v → d < 10 → P v (digitsOf v) → P (v * 10 + d) (digitsOf v ++ ((48 + d) ∷ [])))
+    → (v : ℕ) → P v (digitsOf v)
+digits-induction P one more v = go (suc v) v (omega arith)
+  where
+    go : (k n : ℕ) → n < k → P n (digitsOf n)
+    go zero n h = absurd (omega arith)
+    go (suc k) n h =
+        by-cases (decLt n 10)
+        (λ below. subst (P n) (sym (digits-one n below)) (one n below))
+        (λ above. subst₂ P (omega arith) (sym (digits-last n (omega arith)))
+        (more (n / 10) (n % 10) (omega arith) (omega arith) (go k (n / 10) (omega arith))))
+
+-- a byte that is the digit d, at the front
+pub digit-first : (d b : ℕ) (rest : List ℕ) → d < 10 → b ≡ 48 + d → b ∷ rest ≡ digitsOf d ++ rest
+digit-first d b rest h e = rw (digits-one d h, e)
+
+-- and behind the digits of v
+pub digit-next : (v d b : ℕ) (rest : List ℕ) → 0 < v → d < 10 → b ≡ 48 + d → digitsOf v ++ (b ∷ rest) ≡ digitsOf (v * 10 + d) ++ rest
+digit-next v d b rest p h e =
+    let q : (v * 10 + d) / 10 ≡ v = omega arith in
+    let r : (v * 10 + d) % 10 ≡ d = omega arith in
+    rw (digits-last (v * 10 + d) (omega arith), q, r, e) (sym (append-assoc (digitsOf v) ((48 + d) ∷ []) rest))
+
+-- The bytes.
+
+-- each byte is one of 48 to 57
+abbrev pub AllDigits : List ℕ → Type 0
+AllDigits ds = (b : ℕ) → List·Memᴰ b ds → (48 ≤ b) × (b ≤ 57)
+
+pub digits-bytes : (v : ℕ) → AllDigits (digitsOf v)
+digits-bytes =
+    digits-induction (λ v ds. AllDigits ds)
+    (λ d h b m. digit d b h m)
+    (λ v d p h all b m. ⊎-elim (all b) (digit d b h) (List·Memᴰ·append-cases (digitsOf v) m))
+  where
+    digit : (d b : ℕ) → d < 10 → List·Memᴰ b ((48 + d) ∷ []) → (48 ≤ b) × (b ≤ 57)
+    digit d b h m = let e : b ≡ 48 + d = List·Memᴰ·eq-of-singleton m in omega arith
+
+-- the first byte and the others: only the number 0 begins with the digit 0
+pub record Leading (v : ℕ) (ds : List ℕ) : Type 0 where
+  pub first : ℕ
+  pub others : List ℕ
+  pub split : ds ≡ first ∷ others
+  pub leading-zero : first ≡ 48 → v ≡ 0
+
+pub digits-leading : (v : ℕ) → Leading v (digitsOf v)
+digits-leading =
+    digits-induction Leading
+    (λ d h. record { first = 48 + d; others = []; split = refl; leading-zero = λ e. omega arith })
+    (λ v d p h l. record {
+      first = l .first;
+      others = l .others ++ ((48 + d) ∷ []);
+      split = ap (λ (ds : List ℕ). ds ++ ((48 + d) ∷ [])) (l .split);
+      leading-zero = λ e. let z : v ≡ 0 = l .leading-zero e in absurd (omega arith);
+    })
+
+-- nothing of a number stands behind a leading zero
+pub digits-zero : (v : ℕ) (xs ys : List ℕ) → digitsOf 0 ++ xs ≡ digitsOf v ++ ys → xs ≡ ys
+digits-zero v xs ys e = ap (λ (ds : List ℕ). drop 1 ds) (rw (zero-only, digits-one 0 (omega arith)) at e)
+  where
+    l : Leading v (digitsOf v)
+    l = digits-leading v
+
+    zero-only : v ≡ 0
+    zero-only = l .leading-zero (sym (ap (λ (ds : List ℕ). getD ds 0 0) (rw (digits-one 0 (omega arith), l .split) at e)))
+
+pub digits-nonempty : (v : ℕ) → 0 < length (digitsOf v)
+digits-nonempty v = let l = digits-leading v in omega (arith, ap length (l .split))
+
+-- a number below 10 ^ (k + 1) has at most k + 1 digits
+pub digits-length : (v k : ℕ) → v < 10 ^ suc k → length (digitsOf v) ≤ suc k
+digits-length =
+    digits-induction (λ v ds. (k : ℕ) → v < 10 ^ suc k → length ds ≤ suc k) (λ d h k b. omega arith) longer
+  where
+    longer : (v d : ℕ) → 0 < v → d < 10 → ((k : ℕ) → v < 10 ^ suc k → length (digitsOf v) ≤ suc k)
+        → (k : ℕ) → v * 10 + d < 10 ^ suc k → length (digitsOf v ++ ((48 + d) ∷ [])) ≤ suc k
+    longer v d p h most zero b = absurd (omega arith)
+    longer v d p h most (suc k) b = simp length-append (omega (arith, most k (omega arith)))
+
+-- Reading digits.
+
+abbrev isDigit : ℕ → Bool
+isDigit b = leb 48 b && leb b 57
+
+-- the number that the digits at the front of the bytes make behind those of v, and the bytes that follow them
+scan : ℕ → List ℕ → ℕ × List ℕ
+scan v [] = (v, [])
+scan v (b ∷ rest) = cond (isDigit b) (scan (v * 10 + (b - 48)) rest) (v, b ∷ rest)
+
+scan-digit : (v d b : ℕ) (rest : List ℕ) → d < 10 → b ≡ 48 + d → scan v (b ∷ rest) ≡ scan (v * 10 + d) rest
+unfolding scan
+scan-digit v d b rest h e =
+    let f : b - 48 ≡ d = omega arith in
+    rw (le-leb 48 b (omega arith), le-leb b 57 (omega arith), scan) (rw f)
+
+-- the bytes end, or go on with a byte that is no digit
+abbrev pub Stops : List ℕ → Type 0
+Stops [] = Unit {0}
+Stops (b ∷ rest) = 48 ≤ b → 57 < b
+
+scan-stop : (v : ℕ) (bytes : List ℕ) → Stops bytes → scan v bytes ≡ (v, bytes)
+unfolding scan
+scan-stop v [] stops = refl
+scan-stop v (b ∷ rest) stops = rw (other, scan)
+  where
+    other : isDigit b ≡ false
+    other =
+        by-cases (decLt b 48)
+        (λ low. rw (lt-leb 48 b low))
+        (λ high. rw (le-leb 48 b (omega arith), lt-leb b 57 (stops (omega arith))))
+
+scan-grows : (v : ℕ) (bytes : List ℕ) → v ≤ scan v bytes .0
+unfolding scan
+scan-grows v [] = omega arith
+scan-grows v (b ∷ rest) =
+    go (isDigit b) (scan (v * 10 + (b - 48)) rest) (omega (arith, scan-grows (v * 10 + (b - 48)) rest))
+  where
+    go : (t : Bool) (s : ℕ × List ℕ) → v ≤ s .0 → v ≤ cond t s (v, b ∷ rest) .0
+    go true s h = h
+    go false s h = omega arith
+
+scan-digits : (v : ℕ) (bytes : List ℕ) → scan 0 (digitsOf v ++ bytes) ≡ scan v bytes
+scan-digits =
+    digits-induction (λ v ds. (bytes : List ℕ) → scan 0 (ds ++ bytes) ≡ scan v bytes)
+    (λ d h bytes. scan-digit 0 d (48 + d) bytes h refl ∙ ap (λ (n : ℕ). scan n bytes) (omega arith))
+    (λ v d p h all bytes. ap (scan 0) (append-assoc (digitsOf v) ((48 + d) ∷ []) bytes)
+    ∙ all ((48 + d) ∷ bytes)
+    ∙ scan-digit v d (48 + d) bytes h refl)
+
+scan-field : (u v : ℕ) (xs ys : List ℕ) → Stops ys → digitsOf u ++ xs ≡ digitsOf v ++ ys → scan u xs ≡ (v, ys)
+scan-field u v xs ys stops e = sym (scan-digits u xs) ∙ ap (scan 0) e ∙ scan-digits v ys ∙ scan-stop v ys stops
+
+-- the number and what follows its digits are determined
+pub digits-unique : {u v : ℕ} {xs ys : List ℕ} → Stops xs → Stops ys → digitsOf u ++ xs ≡ digitsOf v ++ ys → (u ≡ v) × (xs ≡ ys)
+digits-unique {u} {v} {xs} {ys} stops stops' e = (ap (λ (p : ℕ × List ℕ). p .0) same, ap (λ (p : ℕ × List ℕ). p .1) same)
+  where
+    same : _≡_ {A = ℕ × List ℕ} (u, xs) (v, ys)
+    same = sym (scan-stop u xs stops) ∙ scan-field u v xs ys stops' e
+
+-- so of a field are the number, the mark and what follows
+pub field-unique :
+    {v w m n : ℕ} {xs ys : List ℕ} → Stops (m ∷ xs) → Stops (n ∷ ys)
+    → digitsOf v ++ (m ∷ xs) ≡ digitsOf w ++ (n ∷ ys) → (v ≡ w) × (m ≡ n) × (xs ≡ ys)
+field-unique {m = m} {n = n} {xs} {ys} stops stops' e =
+    let same = digits-unique {xs = m ∷ xs} {ys = n ∷ ys} stops stops' e in
+    (same .0, ap (λ (l : List ℕ). getD l 0 0) (same .1), ap (λ (l : List ℕ). drop 1 l) (same .1))
+
+-- a number with whose digits those of v begin is at most v
+pub digits-prefix : (u v : ℕ) (xs ys : List ℕ) → Stops ys → digitsOf u ++ xs ≡ digitsOf v ++ ys → u ≤ v
+digits-prefix u v xs ys stops e =
+    omega (arith, scan-grows u xs, ap (λ (p : ℕ × List ℕ). p .0) (scan-field u v xs ys stops e))
+
+-- Values. Each list of digits without a leading zero is that of one number, and each number has one.
+
+-- the number that digits make
+pub valueOf : List ℕ → ℕ
+valueOf ds = scan 0 ds .0
+
+pub value-digits : (v : ℕ) → valueOf (digitsOf v) ≡ v
+unfolding valueOf
+value-digits v =
+    ap (λ (p : ℕ × List ℕ). p .0) (ap (scan 0) (sym (append-nil (digitsOf v))) ∙ scan-digits v [] ∙ scan-stop v [] tt)
+
+pub digits-injective : {u v : ℕ} → digitsOf u ≡ digitsOf v → u ≡ v
+digits-injective {u} {v} e = sym (value-digits u) ∙ ap valueOf e ∙ value-digits v
+
+digits-on : (v : ℕ) (ds : List ℕ) → 0 < v → AllDigits ds → digitsOf v ++ ds ≡ digitsOf (scan v ds .0)
+unfolding scan
+digits-on v [] p all = append-nil (digitsOf v)
+digits-on v (b ∷ ds) p all =
+    let h = all b (List·Memᴰ·head refl) in
+    let e : b ≡ 48 + (b - 48) = omega arith in
+    digit-next v (b - 48) b ds p (omega arith) e
+    ∙ digits-on (v * 10 + (b - 48)) ds (omega arith) (λ c m. all c (List·Memᴰ·tail m))
+    ∙ ap (λ (s : ℕ × List ℕ). digitsOf (s .0)) (sym (scan-digit v (b - 48) b ds (omega arith) e))
+
+pub digits-canonical : (b : ℕ) (ds : List ℕ) → AllDigits (b ∷ ds) → (b ≡ 48 → ds ≡ []) → b ∷ ds ≡ digitsOf (valueOf (b ∷ ds))
+unfolding valueOf
+digits-canonical b ds all zero-alone =
+    digit-first (b - 48) b ds (omega (arith, h)) e ∙ others ∙ ap (λ (s : ℕ × List ℕ). digitsOf (s .0)) (sym first)
+  where
+    h : (48 ≤ b) × (b ≤ 57)
+    h = all b (List·Memᴰ·head refl)
+
+    e : b ≡ 48 + (b - 48)
+    e = omega (arith, h)
+
+    first : scan 0 (b ∷ ds) ≡ scan (b - 48) ds
+    first = scan-digit 0 (b - 48) b ds (omega (arith, h)) e ∙ ap (λ (v : ℕ). scan v ds) (omega arith)
+
+    others : digitsOf (b - 48) ++ ds ≡ digitsOf (scan (b - 48) ds .0)
+    others =
+        by-cases (decLt 48 b)
+        (λ more. digits-on (b - 48) ds (omega arith) (λ c m. all c (List·Memᴰ·tail m)))
+        (λ alone. rw (zero-alone (omega (arith, h)), scan-stop (b - 48) [] tt) (append-nil (digitsOf (b - 48))))

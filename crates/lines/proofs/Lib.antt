@@ -1,0 +1,5 @@
+-- `Runs`, `Reading` and `RoundTrip` are for the crates above too.
+pub mod Runs
+pub mod Reading
+pub mod RoundTrip
+mod Written

@@ -1,0 +1,60 @@
+-- The round trip of demand 2, read off the two promises: what is written for an accepted run reads as that run, and an
+-- accepted line is byte for byte what the writer makes of it.
+use mathlib.Core.Path.{_≡_, refl, sym, ap, ap₂, _∙_}
+use mathlib.Core.List.{List}
+use Prim.Native.Nat.{ℕ, zero, suc}
+use lib.ListN.{length, take}
+use lib.Seq.{take-at}
+use Rattle.generator.specs.Replies.{ValueReply, valueReply}
+use Rattle.generator.proofs.Refusals.{or-else-none}
+use Rattle.lines.specs.declared.Run.{Run}
+use Rattle.lines.specs.Run.{runRefusal}
+use Rattle.lines.specs.Line.{lineOf}
+use Rattle.lines.specs.ReadLine.{RunReply, ReadPromise, acceptedRun, runReply, runOf}
+use Rattle.lines.specs.WriteLine.{writeRefusal, bufferAfter, WritePromise}
+use Rattle.lines.proofs.Runs.{valid-run, valid-words}
+
+-- the refusal and the value that a reply carries
+reply-refusal : (n v : ℕ) → valueReply n v .refusal ≡ n
+reply-refusal zero v = refl
+reply-refusal (suc n) v = refl
+
+reply-value : {n : ℕ} (v : ℕ) → n ≡ 0 → valueReply n v .value ≡ v
+reply-value v e = rw e
+
+-- what an accepted write leaves at the front of the buffer
+module _ {run : Run} {before after : List ℕ} {wrote : ValueReply} (w : WritePromise run before after wrote)
+    (z : wrote .refusal ≡ 0) where
+  accepted : writeRefusal run before ≡ 0
+  accepted = sym (ap (λ (r : ValueReply). r .refusal) (w .equals) ∙ reply-refusal _ _) ∙ z
+
+  pub written-run : runRefusal run ≡ 0
+  unfolding writeRefusal
+  written-run = or-else-none (runRefusal run) _ accepted .0
+
+  pub written-line : take (wrote .value) after ≡ lineOf run
+  written-line =
+      ap₂ take (ap (λ (r : ValueReply). r .value) (w .equals) ∙ reply-value _ accepted)
+      (w .buffer ∙ ap (λ (n : ℕ). bufferAfter n run before) accepted)
+      ∙ take-at (lineOf run) _ (length (lineOf run)) refl
+
+-- what was written reads as the run that was written
+pub written-reads :
+    {run : Run} {before after : List ℕ} {wrote : ValueReply} {reads : RunReply} →
+    WritePromise run before after wrote →
+    wrote .refusal ≡ 0 →
+    ReadPromise (take (wrote .value) after) reads →
+    reads ≡ acceptedRun run
+written-reads {run} w z r =
+    r .of-line run (record { words = valid-words (valid-run run (written-run w z)); line = written-line w z })
+    ∙ ap (λ (n : ℕ). runReply n run) (written-run w z)
+
+-- an accepted line is the one that the writer makes of the run read, whatever the buffer held before
+pub read-writes :
+    {bytes before after : List ℕ} {wrote : ValueReply} {reads : RunReply} →
+    ReadPromise bytes reads →
+    reads .refusal ≡ 0 →
+    WritePromise (runOf reads) before after wrote →
+    wrote .refusal ≡ 0 →
+    take (wrote .value) after ≡ bytes
+read-writes r z w y = written-line w y ∙ sym (r .accepted z .line)

@@ -1,0 +1,23 @@
+-- The line of a run, of six fields.
+use mathlib.Core.List.{List, [], _∷_}
+use Prim.Native.Nat.{ℕ, _^_, _<_}
+use Rattle.fields.specs.Line.{AllBelow, fieldsLine}
+use Rattle.lines.specs.declared.Run.{Run}
+
+-- The six numbers, in their order.
+abbrev pub numbersOf : Run → List ℕ
+numbersOf run =
+    run .generator .width
+    ∷ run .generator .multiplier
+    ∷ run .generator .increment
+    ∷ run .generator .seed
+    ∷ run .first
+    ∷ run .count
+    ∷ []
+
+abbrev pub lineOf : Run → List ℕ
+lineOf run = fieldsLine (numbersOf run)
+
+-- The six numbers are unsigned 64-bit numbers.
+abbrev pub Words : Run → Type 0
+Words run = AllBelow (2 ^ 64) (numbersOf run)

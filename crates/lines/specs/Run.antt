@@ -1,0 +1,19 @@
+-- A run of document 01: a generator, a first index and a count.
+use mathlib.Core.Bool.{Bool, cond, _||_}
+use Prim.Native.Nat.{ℕ, _+_, _^_, _≤_, _<_}
+use lib.Dec.{eqb, leb}
+use Rattle.generator.specs.Recurrence.{element}
+use Rattle.generator.specs.Refusals.{orElse, refusalOf}
+use Rattle.lines.specs.declared.Run.{Run}
+
+-- What position p shows.
+unfoldable pub shows : Run → ℕ → ℕ
+shows run p = element (run .generator) (run .first + p)
+
+-- 5: the count is 0, or first + count is above 2 ^ 64 - 1.
+abbrev pub countRefused : Run → Bool
+countRefused run = eqb (run .count) 0 || leb (2 ^ 64) (run .first + run .count)
+
+-- The refusal that a run meets, 0 for none: 3 and 4 of its generator, then 5.
+unfoldable pub runRefusal : Run → ℕ
+runRefusal run = orElse (refusalOf (run .generator)) (cond (countRefused run) 5 0)

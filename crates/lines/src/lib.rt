@@ -1,0 +1,93 @@
+// Runs: their lines, read and written, and their variety.
+ghost use mathlib.Core.Path.{_≡_};
+ghost use Rattle.generator.specs.Refusals.{checkNumber};
+ghost use Rattle.generator.specs.Replies.{valueOf, valueReply};
+ghost use Rattle.lines.specs.Run.{runRefusal};
+ghost use Rattle.lines.specs.ReadLine.{ReadPromise, replyOf};
+ghost use Rattle.lines.specs.WriteLine.{WritePromise};
+ghost use Rattle.lines.specs.Variety.{varietyOf};
+use generator::Check;
+use generator::Generator;
+use generator::Refusal;
+use generator::ValueAnswer;
+use generator::periods;
+use numbers::Numbers;
+
+pub mod numbers;
+
+// Position p of a run, below its count, shows element first + p.
+pub struct Run {
+    pub generator: Generator,
+    pub first: u64,
+    pub count: u64,
+}
+
+pub enum RunAnswer {
+    Accepted(Run),
+    Refused(Refusal),
+}
+
+// The conditions on a run.
+pub fn checked(run: Run) -> Check
+    ensures { λ r. ⌜ checkNumber r ≡ runRefusal run ⌝ }
+{
+    let verdict = generator::checked(run.generator);
+    if let Check::Refused(_) = verdict {
+        return verdict;
+    }
+    if run.count == 0 {
+        return Check::Refused(Refusal::RunOutOfRange);
+    }
+    if u64::MAX - run.count < run.first {
+        return Check::Refused(Refusal::RunOutOfRange);
+    }
+    Check::Accepted
+}
+
+// The run whose line the bytes are.
+pub fn read_line(bytes: &[u8]) -> RunAnswer
+    ensures { λ r. ⌜ ReadPromise (now (bytes .entry)) (replyOf r) ⌝ }
+{
+    let Numbers::Six(run) = numbers::read(bytes) else {
+        return RunAnswer::Refused(Refusal::MalformedLine);
+    };
+    let verdict = checked(run);
+    if let Check::Refused(refusal) = verdict {
+        return RunAnswer::Refused(refusal);
+    }
+    RunAnswer::Accepted(run)
+}
+
+// Writes a run's line from the buffer's first byte on, and gives the number of bytes.
+pub fn write_line(run: Run, buffer: &mut [u8]) -> ValueAnswer
+    ensures { λ r. ⌜ WritePromise run (now (buffer .entry)) (now (buffer .exit)) (valueOf r) ⌝ }
+{
+    let verdict = checked(run);
+    if let Check::Refused(refusal) = verdict {
+        return ValueAnswer::Refused(refusal);
+    }
+    if buffer.len() < numbers::length(run) {
+        return ValueAnswer::Refused(Refusal::BufferTooShort);
+    }
+    let n = numbers::write(buffer, run);
+    ValueAnswer::Value(n as u64)
+}
+
+// The smaller of a run's count and its period.
+pub fn variety(run: Run) -> ValueAnswer
+    ensures { λ r. ⌜ valueOf r ≡ valueReply (runRefusal run) (varietyOf run) ⌝ }
+{
+    let verdict = checked(run);
+    if let Check::Refused(refusal) = verdict {
+        return ValueAnswer::Refused(refusal);
+    }
+    let exponent = periods::period_exponent(run.generator);
+    if exponent == 64 {
+        return ValueAnswer::Value(run.count);
+    }
+    let period = 1 << exponent;
+    if run.count < period {
+        return ValueAnswer::Value(run.count);
+    }
+    ValueAnswer::Value(period)
+}

@@ -2,7 +2,9 @@
 -- read is the only one whose line the bytes are.
 use mathlib.Core.Path.{_≡_, refl, sym, ap, _∙_, subst}
 use mathlib.Core.List.{List}
-use Prim.Native.Nat.{ℕ}
+use mathlib.Core.Logic.{by-cases}
+use Prim.Native.Nat.{ℕ, zero, suc}
+use native.Mathlib.Decide.{ℕ-discrete}
 use lib.ListN.{getD}
 use Rattle.generator.specs.declared.Refusal.{Refusal}
 use Rattle.generator.specs.declared.Refusal.the-variants.{MalformedLine}
@@ -11,10 +13,11 @@ use Rattle.generator.proofs.Replies.{number-suc, number-nonzero}
 use Rattle.fields.specs.Line.{NoLine}
 use Rattle.fields.proofs.Line.{line-injective}
 use Rattle.lines.specs.declared.Run.{Run}
+use Rattle.lines.specs.declared.RunAnswer.{RunAnswer}
 use Rattle.lines.specs.declared.RunAnswer.the-variants.{Accepted, Refused}
 use Rattle.lines.specs.Run.{runRefusal}
-use Rattle.lines.specs.Line.{numbersOf}
-use Rattle.lines.specs.ReadLine.{IsLine, ReadPromise, replyOf, runReply}
+use Rattle.lines.specs.Line.{numbersOf, lineOf}
+use Rattle.lines.specs.ReadLine.{RunReply, IsLine, ReadPromise, acceptedRun, replyOf, runReply}
 
 -- the run of six numbers
 runAt : List ℕ → Run
@@ -27,9 +30,39 @@ runAt vs =
     }
 
 -- two runs with the same line are the same run
-pub same-run : {bytes : List ℕ} {run other : Run} → IsLine bytes run → IsLine bytes other → run ≡ other
+pub line-run : {run other : Run} → lineOf run ≡ lineOf other → run ≡ other
 unfolding runAt
-same-run h k = ap runAt (line-injective _ _ (sym (h .line) ∙ k .line))
+line-run e = ap runAt (line-injective _ _ e)
+
+same-run : {bytes : List ℕ} {run other : Run} → IsLine bytes run → IsLine bytes other → run ≡ other
+same-run h k = line-run (sym (h .line) ∙ k .line)
+
+-- the refusal that a run's reply carries, and so an accepted line's run is accepted
+reply-refusal : (n : ℕ) (run : Run) → runReply n run .refusal ≡ n
+reply-refusal zero run = refl
+reply-refusal (suc n) run = refl
+
+pub read-run : {bytes : List ℕ} {run : Run} → ReadPromise bytes (acceptedRun run) → runRefusal run ≡ 0
+read-run {run = run} r =
+    sym (ap (λ (reply : RunReply). reply .refusal) (r .of-line run (r .accepted refl)) ∙ reply-refusal _ run)
+
+-- the promise of an answer that is known
+pub read-as : {bytes : List ℕ} {a : RunAnswer} (b : RunAnswer) → a ≡ b → ReadPromise bytes (replyOf a) → ReadPromise bytes (replyOf b)
+read-as {bytes} b e r = subst (λ (c : RunAnswer). ReadPromise bytes (replyOf c)) e r
+
+-- the promise fixes the refusal: bytes that are a line and any others each have theirs
+pub read-same : {bytes : List ℕ} {reply other : RunReply} → ReadPromise bytes reply → ReadPromise bytes other →
+    reply .refusal ≡ other .refusal
+read-same {bytes} {reply} {other} r s = by-cases (ℕ-discrete (reply .refusal) (other .refusal)) (λ e. e) differ
+  where
+    refusal : RunReply → ℕ
+    refusal reply = reply .refusal
+
+    differ : (reply .refusal ≡ other .refusal → ⊥) → reply .refusal ≡ other .refusal
+    differ d =
+        let none : (run : Run) → IsLine bytes run → ⊥ =
+        λ run h. d (ap refusal (r .of-line run h ∙ sym (s .of-line run h))) in
+        ap refusal (r .of-others none ∙ sym (s .of-others none))
 
 pub read-malformed : {bytes : List ℕ} → NoLine 6 bytes → ReadPromise bytes (replyOf (Refused MalformedLine))
 read-malformed n =

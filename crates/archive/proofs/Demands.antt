@@ -1,0 +1,192 @@
+-- The lookup's definition meets demand 3: by induction over the runs, the place it gives shows the number and every other
+-- place that shows it comes later, or no place shows it.
+use mathlib.Core.Path.{_≡_, refl, sym, ap, _∙_, subst}
+use mathlib.Core.Bool.{true, false}
+use mathlib.Core.Logic.{_⊎_, inl, inr, ⊎-elim, by-cases}
+use mathlib.Core.List.{List, [], _∷_}
+use Prim.Native.Nat.{ℕ, zero, suc, _+_, _≤_, _<_}
+use native.Mathlib.Nat.{add-zero, add-suc, suc-add, zero-add}
+use native.Mathlib.Decide.{decLt}
+use native.Mathlib.Omega.{arith}
+use lib.Dec.{eqb}
+use borrow.Author.Tests.{eq-eqb, ne-eqb, eqb-true, lt-ltb, le-ltb}
+use Rattle.generator.specs.declared.Refusal.{Refusal}
+use Rattle.generator.specs.Refusals.{numberOf}
+use Rattle.generator.proofs.Least.{Least, least-least, least-below}
+use Rattle.generator.proofs.Replies.{number-nonzero}
+use Rattle.lines.specs.declared.Run.{Run}
+use Rattle.lines.specs.Run.{shows}
+use Rattle.archive.specs.declared.LookupAnswer.the-variants.{Refused}
+use Rattle.archive.specs.Archive.{IsArchive, numbered}
+use Rattle.archive.specs.Check.{CheckPromise, Readable}
+use Rattle.archive.specs.Lookup.{
+  positionOf,
+  LookupReply,
+  foundAt,
+  foundNone,
+  lookupOf,
+  noRun,
+  Shows,
+  Later,
+  Demand3,
+  LookupPromise,
+  replyOf,
+}
+use Rattle.archive.proofs.Passing.{readable-check}
+use Rattle.archive.proofs.Finding.{lookup-next, lookup-here}
+
+-- Places.
+
+no-line-zero : {runs : List Run} {p y : ℕ} → Shows runs 0 p y → ⊥
+no-line-zero h = absurd (unfold numbered in omega (arith, h .position))
+
+no-run-shows : (line : ℕ) {p y : ℕ} → Shows [] line p y → ⊥
+no-run-shows zero h = no-line-zero h
+no-run-shows (suc line) h = absurd (unfold numbered in omega (arith, h .position))
+
+-- a place of the first run, and of the others
+first-shows : {run : Run} {runs : List Run} {p y : ℕ} → Shows (run ∷ runs) 1 p y → (p < run .count) × (shows run p ≡ y)
+unfolding numbered
+first-shows h = (h .position, h .value)
+
+shows-first : {run : Run} {runs : List Run} {p y : ℕ} → p < run .count → shows run p ≡ y → Shows (run ∷ runs) 1 p y
+unfolding numbered
+shows-first l e = record { position = l; value = e }
+
+other-shows : {run : Run} {runs : List Run} (line : ℕ) {p y : ℕ} → Shows (run ∷ runs) (suc (suc line)) p y → Shows runs (suc line) p y
+unfolding numbered
+other-shows line h = record { position = h .position; value = h .value }
+
+shows-other : {run : Run} {runs : List Run} (line : ℕ) {p y : ℕ} → Shows runs (suc line) p y → Shows (run ∷ runs) (suc (suc line)) p y
+unfolding numbered
+shows-other line h = record { position = h .position; value = h .value }
+
+-- The position in one run.
+position-least : (run : Run) (y : ℕ) → Least (λ p. eqb (shows run p) y) (run .count) (positionOf run y)
+unfolding positionOf
+position-least run y = least-least (λ p. eqb (shows run p) y) (run .count)
+
+position-shows : (run : Run) (y : ℕ) → positionOf run y < run .count → shows run (positionOf run y) ≡ y
+position-shows run y l = eqb-true _ _ (position-least run y .holds l)
+
+position-first : (run : Run) {y p : ℕ} → shows run p ≡ y → positionOf run y ≤ p
+position-first run {y} {p} e = least-below (position-least run y) p (eq-eqb (shows run p) y e)
+
+-- The place found, its line counted from k, or none.
+record Some (k : ℕ) (runs : List Run) (y : ℕ) : Type 0 where
+  line : ℕ
+  position : ℕ
+  reply : lookupOf (suc k) runs y ≡ foundAt (k + suc line) position
+  here : Shows runs (suc line) position y
+  later : (l p : ℕ) → Shows runs l p y → ((l ≡ suc line) × (p ≡ position) → ⊥) → Later l p (suc line) position
+
+record None (k : ℕ) (runs : List Run) (y : ℕ) : Type 0 where
+  reply : lookupOf (suc k) runs y ≡ foundNone
+  nowhere : (l p : ℕ) → Shows runs l p y → ⊥
+
+-- the first run shows y
+some-first : (k : ℕ) (run : Run) (runs : List Run) (y : ℕ) → positionOf run y < run .count → Some k (run ∷ runs) y
+some-first k run runs y l =
+    record {
+      line = 0;
+      position = positionOf run y;
+      reply = lookup-here (suc k) run runs y (l, refl) ∙ ap (λ (n : ℕ). foundAt n (positionOf run y)) (omega arith);
+      here = shows-first l (position-shows run y l);
+      later = later;
+    }
+  where
+    later : (l p : ℕ) → Shows (run ∷ runs) l p y → ((l ≡ 1) × (p ≡ positionOf run y) → ⊥) → Later l p 1 (positionOf run y)
+    later zero p h d = absurd (no-line-zero h)
+    later (suc zero) p h d =
+        let other : p ≡ positionOf run y → ⊥ = λ e. d (refl, e) in
+        inr (refl, omega (arith, position-first run (first-shows h .1)))
+    later (suc (suc l)) p h d = inl (omega arith)
+
+-- it does not, and the others do or do not
+not-first : {run : Run} {runs : List Run} {p y : ℕ} → run .count ≤ positionOf run y → Shows (run ∷ runs) 1 p y → ⊥
+not-first {run} l h = omega (arith, first-shows h .0, position-first run (first-shows h .1))
+
+some-other : (k : ℕ) (run : Run) (runs : List Run) (y : ℕ) → positionOf run y ≡ run .count → Some (suc k) runs y → Some k (run ∷ runs) y
+some-other k run runs y e o =
+    record {
+      line = suc (o .line);
+      position = o .position;
+      reply =
+          lookup-next (suc k) run runs y e ∙ o .reply
+          ∙ ap (λ (n : ℕ). foundAt n (o .position)) (let q : suc k + suc (o .line) ≡ k + suc (suc (o .line)) = omega arith in q);
+      here = shows-other (o .line) (o .here);
+      later = later;
+    }
+  where
+    later : (l p : ℕ) → Shows (run ∷ runs) l p y → ((l ≡ suc (suc (o .line))) × (p ≡ o .position) → ⊥) →
+        Later l p (suc (suc (o .line))) (o .position)
+    later zero p h d = absurd (no-line-zero h)
+    later (suc zero) p h d = absurd (not-first (omega arith) h)
+    later (suc (suc l)) p h d =
+        ⊎-elim (λ b. inl (omega arith)) (λ b. inr (ap suc (b .0), b .1))
+        (o .later (suc l) p (other-shows l h) (λ q. d (ap suc (q .0), q .1)))
+
+none-other : (k : ℕ) (run : Run) (runs : List Run) (y : ℕ) → positionOf run y ≡ run .count → None (suc k) runs y → None k (run ∷ runs) y
+none-other k run runs y e o =
+    record { reply = lookup-next (suc k) run runs y e ∙ o .reply; nowhere = nowhere }
+  where
+    nowhere : (l p : ℕ) → Shows (run ∷ runs) l p y → ⊥
+    nowhere zero p h = no-line-zero h
+    nowhere (suc zero) p h = not-first (omega arith) h
+    nowhere (suc (suc l)) p h = o .nowhere (suc l) p (other-shows l h)
+
+outcome : (k : ℕ) (runs : List Run) (y : ℕ) → Some k runs y ⊎ None k runs y
+outcome k [] y = inr (record { reply = unfold lookupOf in refl; nowhere = λ l p. no-run-shows l })
+outcome k (run ∷ runs) y =
+    let rest = outcome (suc k) runs y in
+    by-cases (decLt (positionOf run y) (run .count)) (λ l. inl (some-first k run runs y l))
+    (λ d.
+    let e : positionOf run y ≡ run .count = omega (arith, position-least run y .within) in
+    ⊎-elim (λ o. inl (some-other k run runs y e o)) (λ o. inr (none-other k run runs y e o)) rest)
+
+-- Demand 3.
+pub lookup-demand : (runs : List Run) (y : ℕ) → Demand3 runs y (lookupOf 1 runs y)
+lookup-demand runs y = ⊎-elim some none (outcome 0 runs y)
+  where
+    some : Some 0 runs y → Demand3 runs y (lookupOf 1 runs y)
+    some o =
+        let e : 0 + suc (o .line) ≡ suc (o .line) = omega arith in
+        rw (o .reply, e)
+        (record {
+          place-shows = λ f. o .here;
+          others-later = λ f. o .later;
+          none = (λ f. absurd (omega arith), λ nowhere. absurd (nowhere (suc (o .line)) (o .position) (o .here)));
+        })
+
+    none : None 0 runs y → Demand3 runs y (lookupOf 1 runs y)
+    none o =
+        rw (o .reply)
+        (record {
+          place-shows = λ f. absurd (omega arith);
+          others-later = λ f. absurd (omega arith);
+          none = (λ f. o .nowhere, λ nowhere. refl);
+        })
+
+-- The promise of the call, of an archive that is read.
+pub lookup-promise : {bytes : List ℕ} {y : ℕ} (reply : LookupReply) → reply .refusal ≡ 0 → Readable bytes →
+    ((runs : List Run) → IsArchive bytes runs → reply ≡ lookupOf 1 runs y) → LookupPromise bytes y reply
+lookup-promise {bytes} {y} reply z r e =
+    record {
+      check = rw z (readable-check r);
+      zeros = λ d. absurd (d z);
+      equals = e;
+      meaning = λ runs is. rw (e runs is) (lookup-demand runs y);
+    }
+
+pub lookup-refused : {bytes : List ℕ} {y : ℕ} (x : Refusal) (line : ℕ) → CheckPromise bytes (numberOf x) line →
+    LookupPromise bytes y (replyOf (Refused x line))
+lookup-refused {bytes} x line c =
+    record {
+      check = rw (ne-eqb (numberOf x) 0 (number-nonzero x)) c;
+      zeros = λ d. (refl, refl);
+      equals = λ runs is. absurd (refused runs is);
+      meaning = λ runs is. absurd (refused runs is);
+    }
+  where
+    refused : (runs : List Run) → IsArchive bytes runs → ⊥
+    refused runs is = number-nonzero x (c .of-archive runs is .0)

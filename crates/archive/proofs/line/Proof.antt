@@ -1,0 +1,29 @@
+-- `archive::line` meets its contract: the part by its place is the part itself.
+use borrow.Author.Needs.{needs}
+use mathlib.Core.Path.{refl}
+use Rattle.archive.proofs.LinePlaces.{line-promise}
+use Rattle.archive.proofs.line.Statement.{statement}
+use Rattle.archive.proofs.line.Tie as tie
+
+line-part-requires : tie.Need-line-part-requires
+line-part-requires c κs = search needs
+
+add-end : tie.Need-add-end
+add-end c = search needs
+
+sub-result : tie.Need-sub-result
+sub-result c = search needs
+
+part-result-start : tie.Need-part-result-start
+part-result-start c = search needs
+
+part-result-end : tie.Need-part-result-end
+part-result-end c = search needs
+
+returns : tie.Need-returns
+returns c = let p = c .before .before .line-part in line-promise (p .result) (p .ensures) refl
+
+pub line-spec : {M : Type 1} → statement M
+line-spec =
+    tie.close
+    (tie.spec line-part-requires add-end sub-result part-result-start part-result-end returns)

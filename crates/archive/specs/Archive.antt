@@ -1,0 +1,30 @@
+-- An archive of document 01: zero or more lines, one after the other.
+use mathlib.Core.Path.{_≡_}
+use mathlib.Core.List.{List, [], _∷_, _++_}
+use Prim.Native.Nat.{ℕ, zero, suc, _≤_}
+use lib.ListN.{length}
+use Rattle.lines.specs.declared.Run.{Run}
+use Rattle.lines.specs.Run.{runRefusal}
+use Rattle.lines.specs.Line.{lineOf}
+
+unfoldable pub archiveOf : List Run → List ℕ
+archiveOf [] = []
+archiveOf (run ∷ runs) = lineOf run ++ archiveOf runs
+
+-- None of the conditions on a run applies to any of them.
+abbrev pub AllAccepted : List Run → Type 0
+AllAccepted [] = Unit
+AllAccepted (run ∷ runs) = (runRefusal run ≡ 0) × AllAccepted runs
+
+-- The bytes are an accepted archive, with these runs.
+pub record IsArchive (bytes : List ℕ) (runs : List Run) : Type 0 where
+  pub short : length bytes ≤ 65536
+  pub accepted : AllAccepted runs
+  pub lines : bytes ≡ archiveOf runs
+
+-- An entry of a list, numbered from 1; what stands in for one that is not there.
+unfoldable pub numbered : {A : Type 0} → A → List A → ℕ → A
+numbered none xs zero = none
+numbered none [] (suc k) = none
+numbered none (x ∷ xs) (suc zero) = x
+numbered none (x ∷ xs) (suc (suc k)) = numbered none xs (suc k)

@@ -1,0 +1,79 @@
+-- The lookup: the earliest place in the archive that shows a number.
+use mathlib.Core.Path.{_≡_}
+use mathlib.Core.Logic.{_↔_, _⊎_}
+use mathlib.Core.Bool.{cond}
+use mathlib.Core.List.{List, [], _∷_}
+use Prim.Native.Nat.{ℕ, zero, suc, _<_}
+use lib.Dec.{eqb, ltb}
+use Rattle.generator.specs.Least.{least}
+use Rattle.generator.specs.Refusals.{numberOf}
+use Rattle.lines.specs.declared.Run.{Run}
+use Rattle.lines.specs.Run.{shows}
+use Rattle.archive.specs.declared.LookupAnswer.{LookupAnswer}
+use Rattle.archive.specs.declared.LookupAnswer.the-variants.{At, Nowhere, Refused}
+use Rattle.archive.specs.Archive.{IsArchive, numbered}
+use Rattle.archive.specs.Check.{CheckPromise}
+
+-- The least position of the run that shows y; its count if there is none.
+unfoldable pub positionOf : Run → ℕ → ℕ
+positionOf run y = least (λ p. eqb (shows run p) y) (run .count)
+
+-- The refusal's number, 0 for none; the line of the place found or of the refusal; 1 if found, 0 for none; the position.
+pub record LookupReply : Type 0 where
+  pub refusal : ℕ
+  pub line : ℕ
+  pub found : ℕ
+  pub position : ℕ
+
+abbrev pub foundAt : ℕ → ℕ → LookupReply
+foundAt line p = record { refusal = 0; line = line; found = 1; position = p }
+
+abbrev pub foundNone : LookupReply
+foundNone = record { refusal = 0; line = 0; found = 0; position = 0 }
+
+-- What an answer says.
+abbrev pub replyOf : LookupAnswer → LookupReply
+replyOf (At line p) = foundAt line p
+replyOf Nowhere = foundNone
+replyOf (Refused r line) = record { refusal = numberOf r; line = line; found = 0; position = 0 }
+
+-- The first of the runs that shows y, numbered from `line` on, with its least position.
+unfoldable pub lookupOf : ℕ → List Run → ℕ → LookupReply
+lookupOf line [] y = foundNone
+lookupOf line (run ∷ runs) y =
+    cond (ltb (positionOf run y) (run .count)) (foundAt line (positionOf run y)) (lookupOf (suc line) runs y)
+
+-- What stands in for a line that is not there: a run with no position.
+abbrev pub noRun : Run
+noRun =
+    record { generator = record { width = 0; multiplier = 0; increment = 0; seed = 0 }; first = 0; count = 0 }
+
+-- Document 01's place: a line number and a position of that line's run. A line that is not there has no position.
+pub record Shows (runs : List Run) (line p y : ℕ) : Type 0 where
+  pub position : p < numbered noRun runs line .count
+  pub value : shows (numbered noRun runs line) p ≡ y
+
+-- Of two places the one with the higher line number comes later, and within one line the one with the higher position.
+abbrev pub Later : ℕ → ℕ → ℕ → ℕ → Type 0
+Later line p first q = (first < line) ⊎ ((line ≡ first) × (q < p))
+
+-- Demand 3 of the lookup, in its own words: the place given shows the number; every other place in the archive that shows
+-- it comes later; none comes exactly when no position of any run in the archive shows it.
+pub record Demand3 (runs : List Run) (y : ℕ) (reply : LookupReply) : Type 0 where
+  pub place-shows : reply .found ≡ 1 → Shows runs (reply .line) (reply .position) y
+  pub others-later :
+      reply .found ≡ 1 →
+      (line p : ℕ) → Shows runs line p y → ((line ≡ reply .line) × (p ≡ reply .position) → ⊥) →
+      Later line p (reply .line) (reply .position)
+  pub none : (reply .found ≡ 0) ↔ ((line p : ℕ) → Shows runs line p y → ⊥)
+
+-- The line that a reply's refusal concerns; 0 where nothing is refused.
+abbrev pub refusedLine : LookupReply → ℕ
+refusedLine reply = cond (eqb (reply .refusal) 0) 0 (reply .line)
+
+-- The promise of the call.
+pub record LookupPromise (bytes : List ℕ) (y : ℕ) (reply : LookupReply) : Type 0 where
+  pub check : CheckPromise bytes (reply .refusal) (refusedLine reply)
+  pub zeros : (reply .refusal ≡ 0 → ⊥) → (reply .found ≡ 0) × (reply .position ≡ 0)
+  pub equals : (runs : List Run) → IsArchive bytes runs → reply ≡ lookupOf 1 runs y
+  pub meaning : (runs : List Run) → IsArchive bytes runs → Demand3 runs y reply

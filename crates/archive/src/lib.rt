@@ -1,0 +1,83 @@
+// The archive: its check, its lines, and the lookup.
+ghost use Prim.Native.Nat.{ℕ};
+ghost use Rattle.archive.specs.Check.{Checked, refusalNumber, refusalLine};
+ghost use Rattle.archive.specs.Line.{LinePromise, PartPromise};
+ghost use Rattle.archive.specs.Lookup.{LookupPromise, replyOf};
+use generator::Refusal;
+use lines::RunAnswer;
+
+pub mod parts;
+pub mod places;
+
+pub enum ArchiveCheck {
+    Accepted,
+    Refused(Refusal, u64),
+}
+
+pub enum LookupAnswer {
+    At(u64, u64),
+    Nowhere,
+    Refused(Refusal, u64),
+}
+
+// A part of the archive, by its first byte and its length.
+pub struct Part {
+    pub start: usize,
+    pub length: usize,
+}
+
+// The whole archive, line by line.
+pub fn checked(archive: &[u8]) -> ArchiveCheck
+    ensures { λ r. ⌜ Checked (now (archive .entry)) (refusalNumber r) (refusalLine r) ⌝ }
+{
+    if 65536 < archive.len() {
+        return ArchiveCheck::Refused(Refusal::ArchiveTooLong, 0);
+    }
+    let mut at = 0;
+    let mut number = 1;
+    while at < archive.len() {
+        let end = parts::part_end(archive, at);
+        let answer = lines::read_line(&archive[at..end]);
+        if let RunAnswer::Refused(refusal) = answer {
+            return ArchiveCheck::Refused(refusal, number);
+        }
+        at = end;
+        number += 1;
+    }
+    ArchiveCheck::Accepted
+}
+
+// The place of the line with that number; the empty part if the archive is refused or has no such line.
+pub fn line_part(archive: &[u8], number: u64) -> Part
+    ensures { λ r. ⌜ PartPromise (now (archive .entry)) number r ⌝ }
+{
+    let verdict = checked(archive);
+    if let ArchiveCheck::Refused(_, _) = verdict {
+        return Part {
+            start: 0,
+            length: 0,
+        };
+    }
+    places::line_place(archive, number)
+}
+
+// The line with that number, as a part of the archive itself.
+pub fn line<'a>(archive: &'a [u8], number: u64) -> &'a [u8]
+    ensures { λ r. ⌜ LinePromise (now (archive .entry)) number (now r) ⌝ }
+{
+    let part = line_part(archive, number);
+    let start = part.start;
+    let end = start + part.length;
+    &archive[start..end]
+}
+
+// The earliest place in the archive that shows the value.
+pub fn lookup(archive: &[u8], value: u64) -> LookupAnswer
+    ensures { λ r. ⌜ LookupPromise (now (archive .entry)) value (replyOf r) ⌝ }
+{
+    let verdict = checked(archive);
+    if let ArchiveCheck::Refused(refusal, number) = verdict {
+        return LookupAnswer::Refused(refusal, number);
+    }
+    places::earliest(archive, value)
+}

@@ -1,0 +1,89 @@
+// Places in an accepted archive.
+ghost use mathlib.Core.Path.{_≡_};
+ghost use Rattle.lines.specs.Run.{runRefusal};
+ghost use Rattle.archive.specs.Check.{Readable};
+ghost use Rattle.archive.specs.Line.{PartPromise};
+ghost use Rattle.archive.specs.Lookup.{LookupPromise, replyOf};
+ghost use Rattle.archive.specs.Searching.{PositionIn};
+use crate::LookupAnswer;
+use crate::Part;
+use crate::parts::part_end;
+use generator::Generator;
+use generator::linear;
+use generator::search::Position;
+use generator::search::position_of;
+use lines::Run;
+use lines::RunAnswer;
+
+// The least position of an accepted run that shows y: the index search from the run's first element on.
+pub fn position_in(run: Run, y: u64) -> Position
+    requires { ⌜ runRefusal run ≡ 0 ⌝ }
+    ensures { λ r. ⌜ PositionIn run y r ⌝ }
+{
+    let g = run.generator;
+    let start = Generator {
+        width: g.width,
+        multiplier: g.multiplier,
+        increment: g.increment,
+        seed: linear::element_at(g, run.first),
+    };
+    let Position::At(p) = position_of(start, y) else {
+        return Position::Never;
+    };
+    if p < run.count {
+        return Position::At(p);
+    }
+    Position::Never
+}
+
+// The earliest place that shows y.
+pub fn earliest(archive: &[u8], y: u64) -> LookupAnswer
+    requires { ⌜ Readable (now archive) ⌝ }
+    ensures { λ r. ⌜ LookupPromise (now (archive .entry)) y (replyOf r) ⌝ }
+{
+    let mut at = 0;
+    let mut number = 1;
+    while at < archive.len() {
+        let end = part_end(archive, at);
+        let RunAnswer::Accepted(run) = lines::read_line(&archive[at..end]) else {
+            return LookupAnswer::Nowhere;
+        };
+        let position = position_in(run, y);
+        if let Position::At(p) = position {
+            return LookupAnswer::At(number, p);
+        }
+        at = end;
+        number += 1;
+    }
+    LookupAnswer::Nowhere
+}
+
+// The place of a line.
+pub fn line_place(archive: &[u8], number: u64) -> Part
+    requires { ⌜ Readable (now archive) ⌝ }
+    ensures { λ r. ⌜ PartPromise (now (archive .entry)) number r ⌝ }
+{
+    if number == 0 {
+        return Part {
+            start: 0,
+            length: 0,
+        };
+    }
+    let mut at = 0;
+    let mut left = number;
+    while at < archive.len() {
+        let end = part_end(archive, at);
+        if left == 1 {
+            return Part {
+                start: at,
+                length: end - at,
+            };
+        }
+        at = end;
+        left -= 1;
+    }
+    Part {
+        start: 0,
+        length: 0,
+    }
+}

@@ -16,6 +16,7 @@ use Rattle.generator.proofs.Least.{Least, least-least, least-below}
 use Rattle.generator.proofs.Replies.{number-nonzero}
 use Rattle.lines.specs.declared.Run.{Run}
 use Rattle.lines.specs.Run.{shows}
+use Rattle.archive.specs.declared.LookupAnswer.{LookupAnswer}
 use Rattle.archive.specs.declared.LookupAnswer.the-variants.{Refused}
 use Rattle.archive.specs.Archive.{IsArchive, numbered}
 use Rattle.archive.specs.Check.{CheckPromise, Readable}
@@ -190,3 +191,8 @@ lookup-refused {bytes} x line c =
   where
     refused : (runs : List Run) → IsArchive bytes runs → ⊥
     refused runs is = number-nonzero x (c .of-archive runs is .0)
+
+-- the promise of an answer that is known
+pub lookup-as : {bytes : List ℕ} {y : ℕ} {a : LookupAnswer} (b : LookupAnswer) → a ≡ b → LookupPromise bytes y (replyOf a) →
+    LookupPromise bytes y (replyOf b)
+lookup-as {bytes} {y} b e p = subst (λ (c : LookupAnswer). LookupPromise bytes y (replyOf c)) e p

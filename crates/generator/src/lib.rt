@@ -15,6 +15,7 @@ use words::bits::low_bits;
 pub mod customary;
 pub mod linear;
 pub mod periods;
+pub mod refusal_number;
 pub mod search;
 
 pub struct Generator {

@@ -1,0 +1,61 @@
+-- What each step of writing a line to the front of a buffer shows: a word is copied, two fields are written one behind the
+-- other, and what is written behind a word makes one line with it.
+use mathlib.Core.Path.{_≡_, sym, ap, ap₂, _∙_}
+use mathlib.Core.List.{List, [], _∷_, _++_, append-assoc, append-nil}
+use Prim.Native.Nat.{ℕ, _+_, _-_, _≤_}
+use native.Mathlib.Omega.{arith}
+use native.Mathlib.Nat.{le-refl}
+use lib.ListN.{length, take, drop, length-append, length-drop, drop-of-length-le}
+use lib.Seq.{take-length, take-all, take-append-seam, drop-append-seam, drop-drop}
+use Rattle.fields.specs.Field.{Written}
+use Rattle.fields.specs.Line.{fieldsLine}
+use Rattle.fields.proofs.Line.{nothing-written, field-written, line-written}
+use Rattle.runfind_io.specs.Output.{FrontWritten}
+
+pub within : {bytes before after : List ℕ} {n : ℕ} → FrontWritten bytes before after n → n ≤ length after
+within w = omega (arith, simp length-append at (ap length (w .whole)))
+
+pub word-written :
+    (word before after : List ℕ) (n : ℕ) → n ≡ length word
+    → after ≡ take (length word) word ++ drop (length word) before
+    → FrontWritten word before after n
+word-written word before after n e copied = record { whole = rw take-length at copied; count = e }
+
+pub pair-written :
+    {before between after : List ℕ} {v w n m : ℕ} → Written before between 0 v 44 n → length between ≡ length before
+    → Written between after n w 10 m → FrontWritten (fieldsLine (v ∷ w ∷ [])) before after m
+pair-written {before} first kept second =
+    let line = line-written (field-written (nothing-written before) first kept) second in
+    record { whole = rw (← line .0) (line .1); count = line .0 }
+
+-- the line is written to the part of the buffer that follows the word
+pub line-behind :
+    {word line before between part : List ℕ} {n m : ℕ} → FrontWritten word before between n
+    → FrontWritten line (take (length between - n) (drop n between)) part m
+    → FrontWritten (word ++ line) before (take n between ++ (part ++ drop (length between - n) (drop n between))) (n + m)
+line-behind {word} {line} {before} {between} {part} {n} {m} front back =
+    record {
+      whole =
+          ap₂ (λ (x y : List ℕ). x ++ (part ++ y)) word-kept nothing-left
+          ∙ ap (λ (l : List ℕ). word ++ l) (append-nil part ∙ behind)
+          ∙ sym (append-assoc word line (drop (length (word ++ line)) before));
+      count = simp length-append (omega arith);
+    }
+  where
+    word-kept : take n between ≡ word
+    word-kept = rw (front .count, front .whole) (take-append-seam word (drop (length word) before))
+
+    rest-kept : drop n between ≡ drop (length word) before
+    rest-kept = rw (front .count, front .whole) (drop-append-seam word (drop (length word) before))
+
+    all : length (drop n between) ≤ length between - n
+    all = rw length-drop (le-refl (length between - n))
+
+    nothing-left : drop (length between - n) (drop n between) ≡ []
+    nothing-left = drop-of-length-le (drop n between) all
+
+    behind : part ≡ line ++ drop (length (word ++ line)) before
+    behind =
+        back .whole
+        ∙ ap (λ (l : List ℕ). line ++ drop (length line) l) (take-all (length between - n) (drop n between) all ∙ rest-kept)
+        ∙ ap (λ (l : List ℕ). line ++ l) (drop-drop (length line) (length word) before ∙ rw length-append)

@@ -1,0 +1,44 @@
+// The calls on an archive.
+use crate::numbers::Bytes;
+use crate::numbers::read_bytes;
+use crate::replies::Reply;
+use archive::LookupAnswer;
+use generator::refusal_number;
+
+// The reply to a call on an archive: a number, and the archive's bytes.
+pub fn reply(letter: u8, n: &[u64]) -> Reply {
+    let mut buffer = [0u8; 256];
+    if n.len() == 0 {
+        return Reply::Unreadable;
+    }
+    let Bytes::Count(count) = read_bytes(&n[1..], &mut buffer) else {
+        return Reply::Unreadable;
+    };
+    on_archive(letter, &buffer[0..count], n[0])
+}
+
+fn on_archive(letter: u8, archive: &[u8], number: u64) -> Reply {
+    if letter == b'F' {
+        return lookup(archive, number);
+    }
+    line(archive, number)
+}
+
+fn lookup(archive: &[u8], number: u64) -> Reply {
+    let answer = archive::lookup(archive, number);
+    match answer {
+        LookupAnswer::At(line, position) => Reply::Four(0, line, 1, position),
+        LookupAnswer::Nowhere => Reply::Four(0, 0, 0, 0),
+        LookupAnswer::Refused(refusal, line) => Reply::Four(
+            refusal_number::number(refusal),
+            line,
+            0,
+            0,
+        ),
+    }
+}
+
+fn line(archive: &[u8], number: u64) -> Reply {
+    let part = archive::line_part(archive, number);
+    Reply::Two(part.start as u64, part.length as u64)
+}

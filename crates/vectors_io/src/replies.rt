@@ -1,0 +1,58 @@
+// Replies and their lines.
+ghost use mathlib.Core.Path.{_≡_};
+ghost use Prim.Native.Nat.{_+_, _*_, _≤_, _<_};
+ghost use lib.ListN.{length};
+use fields::field::write_field;
+
+// The numbers of a reply, by how many they are.
+pub enum Reply {
+    Unreadable,
+    Two(u64, u64),
+    Three(u64, u64, u64),
+    Four(u64, u64, u64, u64),
+    Seven(u64, u64, u64, u64, u64, u64, u64),
+}
+
+// Writes the line of a reply at `at`, and gives the place behind it.
+pub fn write(out: &mut [u8], at: usize, reply: Reply) -> usize
+    requires { ⌜ at + 147 ≤ length (now out) ⌝ }
+    ensures { λ r. ⌜ r ≤ at + 147 ⌝ }
+{
+    match reply {
+        Reply::Unreadable => write_question(out, at),
+        Reply::Two(a, b) => write_numbers(out, at, &[a, b]),
+        Reply::Three(a, b, c) => write_numbers(out, at, &[a, b, c]),
+        Reply::Four(a, b, c, d) => write_numbers(out, at, &[a, b, c, d]),
+        Reply::Seven(a, b, c, d, e, f, g) => write_numbers(out, at, &[a, b, c, d, e, f, g]),
+    }
+}
+
+// Writes `?` and byte 10.
+fn write_question(out: &mut [u8], at: usize) -> usize
+    requires { ⌜ at + 1 < length (now out) ⌝ }
+    ensures { λ r. ⌜ r ≡ at + 2 ⌝ }
+{
+    out[at] = b'?';
+    out[at + 1] = 10;
+    at + 2
+}
+
+// Writes numbers as a line. A field has 21 bytes at most.
+fn write_numbers(out: &mut [u8], from: usize, numbers: &[u64]) -> usize
+    requires { ⌜ from + 21 * length (now numbers) ≤ length (now out) ⌝ }
+    ensures { λ r. ⌜ r ≤ from + 21 * length (now (numbers .entry)) ⌝ }
+{
+    let mut at = from;
+    let mut i = 0;
+    while i < numbers.len() {
+        let v = numbers[i];
+        i += 1;
+        at = write_field(out, at, v, mark_before(numbers.len() - i));
+    }
+    at
+}
+
+// The mark of a field that n fields follow.
+fn mark_before(n: usize) -> u8 {
+    if n == 0 { 10 } else { b',' }
+}

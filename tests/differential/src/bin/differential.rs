@@ -1,0 +1,329 @@
+//! Compares every call of the proved library with the model: on all generators of widths 1 to 5,
+//! and on random calls, accepted and refused. Ends with status 1 at the first difference.
+//!
+//!     cargo run --release --bin differential
+
+use std::fmt::{self, Debug, Formatter};
+use std::thread;
+use std::time::Instant;
+
+use noonpasture_differential::calls::*;
+use noonpasture_differential::random::Random;
+use noonpasture_differential::{library, model, samples};
+
+/// The work is halved between two threads, each with random numbers of its own.
+const SHARES: u64 = 2;
+const RANDOM_CALLS: u64 = 1_000_000;
+const SEED: u64 = 20_260_101;
+
+#[derive(Clone, Copy)]
+enum Kind {
+    Element,
+    Orbit,
+    Index,
+    Predecessor,
+    Variety,
+    CustomaryMultiplier,
+    WriteLine,
+    ReadLine,
+    Line,
+    Lookup,
+}
+
+const KINDS: [&str; 10] = [
+    "element",
+    "orbit",
+    "index",
+    "predecessor",
+    "variety",
+    "customary_multiplier",
+    "write_line",
+    "read_line",
+    "line",
+    "lookup",
+];
+
+/// What replies are counted by: an answer, a refusal by its number, or nothing, which is never,
+/// none or the empty part.
+const OUTCOMES: [&str; 10] = ["answer", "1", "2", "3", "4", "5", "6", "7", "8", "nothing"];
+const ANSWER: usize = 0;
+const NOTHING: usize = 9;
+
+trait Reply: PartialEq + Debug {
+    fn refusal(&self) -> u64;
+
+    fn is_nothing(&self) -> bool {
+        false
+    }
+
+    fn outcome(&self) -> usize {
+        match self.refusal() {
+            0 if self.is_nothing() => NOTHING,
+            0 => ANSWER,
+            refusal => refusal as usize,
+        }
+    }
+}
+
+impl Reply for Value {
+    fn refusal(&self) -> u64 {
+        self.refusal
+    }
+}
+
+impl Reply for OrbitReply {
+    fn refusal(&self) -> u64 {
+        self.refusal
+    }
+}
+
+impl Reply for RunReply {
+    fn refusal(&self) -> u64 {
+        self.refusal
+    }
+}
+
+impl Reply for IndexReply {
+    fn refusal(&self) -> u64 {
+        self.refusal
+    }
+
+    fn is_nothing(&self) -> bool {
+        self.found == 0
+    }
+}
+
+impl Reply for LookupReply {
+    fn refusal(&self) -> u64 {
+        self.refusal
+    }
+
+    fn is_nothing(&self) -> bool {
+        self.found == 0
+    }
+}
+
+impl Reply for Part {
+    fn refusal(&self) -> u64 {
+        0
+    }
+
+    fn is_nothing(&self) -> bool {
+        self.length == 0
+    }
+}
+
+/// A reply with the buffer's later content.
+impl<const LENGTH: usize> Reply for (Value, [u8; LENGTH]) {
+    fn refusal(&self) -> u64 {
+        self.0.refusal
+    }
+}
+
+/// Shown as text.
+struct Bytes<'a>(&'a [u8]);
+
+impl Debug for Bytes<'_> {
+    fn fmt(&self, f: &mut Formatter) -> fmt::Result {
+        write!(f, "\"{}\"", self.0.escape_ascii())
+    }
+}
+
+/// How many calls of each kind and outcome agreed.
+#[derive(Default)]
+struct Tally([[u64; OUTCOMES.len()]; KINDS.len()]);
+
+impl Tally {
+    /// Counts the call, or shows it and ends the program.
+    fn compare<R: Reply>(&mut self, kind: Kind, arguments: &dyn Debug, library: R, model: R) {
+        if library != model {
+            let kind = KINDS[kind as usize];
+            println!("{kind} differs for {arguments:?}\nlibrary: {library:?}\nmodel:   {model:?}");
+            std::process::exit(1);
+        }
+        self.0[kind as usize][model.outcome()] += 1;
+    }
+
+    fn add(&mut self, other: Tally) {
+        for (count, more) in self.0.iter_mut().flatten().zip(other.0.iter().flatten()) {
+            *count += more;
+        }
+    }
+
+    fn print(&self, title: &str) {
+        print!("\n{title:<35}{:>8}", "calls");
+        OUTCOMES.iter().for_each(|outcome| print!("{outcome:>8}"));
+        let compared = KINDS.iter().zip(&self.0).filter(|(_, counts)| counts.iter().any(|&count| count > 0));
+        for (kind, counts) in compared {
+            print!("\n{kind:<35}{:>8}", counts.iter().sum::<u64>());
+            counts.iter().for_each(|count| print!("{count:>8}"));
+        }
+        println!();
+    }
+
+    fn element(&mut self, g: Generator, index: u64) {
+        let (library, model) = (library::element(g, index), model::element(g, index));
+        self.compare(Kind::Element, &(g, index), library, model);
+    }
+
+    fn orbit(&mut self, g: Generator) {
+        self.compare(Kind::Orbit, &g, library::orbit(g), model::orbit(g));
+    }
+
+    fn index(&mut self, g: Generator, number: u64) {
+        let (library, model) = (library::index(g, number), model::index(g, number));
+        self.compare(Kind::Index, &(g, number), library, model);
+    }
+
+    fn predecessor(&mut self, g: Generator, number: u64) {
+        let (library, model) = (library::predecessor(g, number), model::predecessor(g, number));
+        self.compare(Kind::Predecessor, &(g, number), library, model);
+    }
+
+    fn variety(&mut self, run: Run) {
+        self.compare(Kind::Variety, &run, library::variety(run), model::variety(run));
+    }
+
+    fn customary_multiplier(&mut self, width: u64) {
+        let (library, model) = (library::customary_multiplier(width), model::customary_multiplier(width));
+        self.compare(Kind::CustomaryMultiplier, &width, library, model);
+    }
+
+    /// Lends the first `length` bytes of `before`; all bytes are compared afterwards.
+    fn write_line(&mut self, run: Run, before: [u8; 160], length: usize) {
+        let (mut ours, mut theirs) = (before, before);
+        let library = library::write_line(run, &mut ours[..length]);
+        let model = model::write_line(run, &mut theirs[..length]);
+        self.compare(Kind::WriteLine, &(run, length, before), (library, ours), (model, theirs));
+    }
+
+    fn read_line(&mut self, bytes: &[u8]) {
+        self.compare(Kind::ReadLine, &Bytes(bytes), library::read_line(bytes), model::read_line(bytes));
+    }
+
+    fn line(&mut self, archive: &[u8], number: u64) {
+        let (library, model) = (library::line(archive, number), model::line(archive, number));
+        self.compare(Kind::Line, &(number, Bytes(archive)), library, model);
+    }
+
+    fn lookup(&mut self, archive: &[u8], number: u64) {
+        let (library, model) = (library::lookup(archive, number), model::lookup(archive, number));
+        self.compare(Kind::Lookup, &(number, Bytes(archive)), library, model);
+    }
+}
+
+// Every generator of a narrow width.
+
+fn all_calls_on(tally: &mut Tally, g: Generator) {
+    let size = 1 << g.width;
+    tally.orbit(g);
+    for index in (0..=size + g.width + 2).chain([u64::MAX]) {
+        tally.element(g, index);
+    }
+    for number in 0..=size {
+        tally.index(g, number);
+        tally.predecessor(g, number);
+    }
+    for first in [0, 1, size, u64::MAX - size] {
+        for count in [0, 1, 2, size / 2, size - 1, size, size + 1] {
+            tally.variety(Run { generator: g, first, count });
+        }
+    }
+}
+
+/// The share that begins at this seed: every second one.
+fn all_generators(share: u64) -> Tally {
+    let mut tally = Tally::default();
+    for width in 1..=5 {
+        let size = 1 << width;
+        for multiplier in 0..size {
+            for increment in 0..size {
+                for seed in (share..size).step_by(SHARES as usize) {
+                    all_calls_on(&mut tally, Generator { width, multiplier, increment, seed });
+                }
+            }
+        }
+    }
+    tally
+}
+
+// Random calls.
+
+fn random_generators(r: &mut Random, tally: &mut Tally, calls: u64) {
+    for _ in 0..calls {
+        let g = samples::generator(r);
+        tally.element(g, samples::index(r));
+        tally.orbit(g);
+        tally.index(g, samples::number(r, g));
+        tally.predecessor(g, samples::number(r, g));
+        tally.variety(samples::run(r));
+        let widths = [r.below(70), r.any()];
+        tally.customary_multiplier(r.pick(&widths));
+    }
+}
+
+fn random_lines(r: &mut Random, tally: &mut Tally, calls: u64) {
+    for call in 0..calls {
+        let run = samples::run(r);
+        let exact = run.line().len();
+        let lengths = [call as usize % 131, exact, exact - 1];
+        let filling = r.word().to_le_bytes();
+        let before = std::array::from_fn(|at| filling[at % 8] ^ at as u8);
+        tally.write_line(run, before, r.pick(&lengths));
+        tally.read_line(&samples::line(r));
+    }
+}
+
+fn on_archive(r: &mut Random, tally: &mut Tally, archive: &samples::Archive) {
+    for &number in &archive.numbers {
+        tally.lookup(&archive.bytes, number);
+        let line_numbers = [r.below(10), r.below(42), r.below(1500), r.any()];
+        tally.line(&archive.bytes, r.pick(&line_numbers));
+    }
+}
+
+fn random_archives(r: &mut Random, tally: &mut Tally, calls: u64) {
+    const NUMBERS: usize = 8;
+    for _ in 0..calls / NUMBERS as u64 {
+        let archive = samples::archive(r, NUMBERS);
+        on_archive(r, tally, &archive);
+    }
+}
+
+/// Archives about as long as they may be: whole, and with one byte damaged.
+fn long_archives(r: &mut Random, tally: &mut Tally) {
+    for length in ARCHIVE_LIMIT - 8..ARCHIVE_LIMIT + 8 {
+        let mut archive = samples::archive_of_length(r, length, 8);
+        on_archive(r, tally, &archive);
+        archive.bytes = samples::damaged(r, archive.bytes);
+        on_archive(r, tally, &archive);
+    }
+}
+
+fn random_calls(share: u64) -> Tally {
+    let mut tally = Tally::default();
+    let mut r = Random::new(SEED + share);
+    let calls = RANDOM_CALLS / SHARES;
+    random_generators(&mut r, &mut tally, calls);
+    random_lines(&mut r, &mut tally, calls);
+    random_archives(&mut r, &mut tally, calls);
+    long_archives(&mut r, &mut tally);
+    tally
+}
+
+/// The sum of all shares, each counted by a thread.
+fn shared(work: fn(u64) -> Tally) -> Tally {
+    let threads: Vec<_> = (0..SHARES).map(|share| thread::spawn(move || work(share))).collect();
+    let mut sum = Tally::default();
+    for thread in threads {
+        sum.add(thread.join().expect("a thread of the comparison failed"));
+    }
+    sum
+}
+
+fn main() {
+    let start = Instant::now();
+    shared(all_generators).print("all generators of widths 1 to 5");
+    shared(random_calls).print("random calls");
+    println!("\nno difference, {} seconds", start.elapsed().as_secs());
+}

@@ -1,0 +1,10 @@
+//! What the programs `differential` and `bench` are made of.
+
+pub mod calls;
+pub mod formula;
+pub mod library;
+pub mod model;
+pub mod random;
+pub mod same_method;
+pub mod samples;
+pub mod trail;

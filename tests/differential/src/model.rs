@@ -1,0 +1,260 @@
+//! Every call of the header once more, independently: sequences by stepping where that is short
+//! and by formula elsewhere, lines by splitting the bytes.
+
+use crate::calls::*;
+use crate::formula;
+use crate::trail::{low, Trail};
+
+/// Up to this width odd multipliers are stepped through; even ones always are.
+const STEPPED_WIDTH: u64 = 8;
+
+fn is_odd(number: u64) -> bool {
+    number % 2 == 1
+}
+
+fn is_stepped(g: Generator) -> bool {
+    g.width <= STEPPED_WIDTH || !is_odd(g.multiplier)
+}
+
+// The sequence of an accepted generator.
+
+pub fn element_of(g: Generator, index: u64) -> u64 {
+    if is_stepped(g) {
+        Trail::of(g).element(index)
+    } else {
+        formula::element(g, index)
+    }
+}
+
+fn orbit_of(g: Generator) -> (u64, u64) {
+    if is_stepped(g) {
+        let trail = Trail::of(g);
+        (trail.preperiod(), trail.exponent())
+    } else {
+        (0, formula::exponent(g))
+    }
+}
+
+fn index_of(g: Generator, number: u64) -> Option<u64> {
+    if !fits(number, g.width) {
+        None
+    } else if is_stepped(g) {
+        Trail::of(g).index(number)
+    } else {
+        formula::index(g, number)
+    }
+}
+
+/// The least position of the run that shows the number.
+fn position_of(run: Run, number: u64) -> Option<u64> {
+    let seed = element_of(run.generator, run.first);
+    index_of(Generator { seed, ..run.generator }, number).filter(|&position| position < run.count)
+}
+
+// Refusals, 0 for none.
+
+fn fits(number: u64, width: u64) -> bool {
+    (number as u128) < 1 << width
+}
+
+fn generator_refusal(g: Generator) -> u64 {
+    if !(1..=64).contains(&g.width) {
+        WIDTH_OUT_OF_RANGE
+    } else if ![g.multiplier, g.increment, g.seed].iter().all(|&operand| fits(operand, g.width)) {
+        OPERAND_OUT_OF_RANGE
+    } else {
+        0
+    }
+}
+
+fn run_refusal(run: Run) -> u64 {
+    match generator_refusal(run.generator) {
+        0 if run.count == 0 || run.first.checked_add(run.count).is_none() => RUN_OUT_OF_RANGE,
+        refusal => refusal,
+    }
+}
+
+// The calls on one generator or run.
+
+pub fn element(g: Generator, index: u64) -> Value {
+    match generator_refusal(g) {
+        0 => Value { refusal: 0, value: element_of(g, index) },
+        refusal => Value { refusal, value: 0 },
+    }
+}
+
+pub fn orbit(g: Generator) -> OrbitReply {
+    let refusal = generator_refusal(g);
+    let (preperiod, exponent) = if refusal == 0 { orbit_of(g) } else { (0, 0) };
+    OrbitReply { refusal, preperiod, exponent }
+}
+
+pub fn index(g: Generator, number: u64) -> IndexReply {
+    let refusal = generator_refusal(g);
+    let found = if refusal == 0 { index_of(g, number) } else { None };
+    IndexReply { refusal, found: found.is_some().into(), index: found.unwrap_or(0) }
+}
+
+pub fn predecessor(g: Generator, number: u64) -> Value {
+    let refusal = match generator_refusal(g) {
+        0 if !fits(number, g.width) => VALUE_OUT_OF_RANGE,
+        0 if !is_odd(g.multiplier) => NOT_INVERTIBLE,
+        refusal => refusal,
+    };
+    if refusal != 0 {
+        return Value { refusal, value: 0 };
+    }
+    let inverse = formula::inverse(g.multiplier);
+    let value = number.wrapping_sub(g.increment).wrapping_mul(inverse);
+    Value { refusal: 0, value: low(value.into(), g.width) }
+}
+
+pub fn variety(run: Run) -> Value {
+    match run_refusal(run) {
+        0 => {
+            let period = 1u128 << orbit_of(run.generator).1;
+            Value { refusal: 0, value: period.min(run.count.into()) as u64 }
+        }
+        refusal => Value { refusal, value: 0 },
+    }
+}
+
+pub fn customary_multiplier(width: u64) -> Value {
+    if !(3..=64).contains(&width) {
+        return Value { refusal: WIDTH_OUT_OF_RANGE, value: 0 };
+    }
+    let odd_powers = (1..).step_by(2).map(|exponent| 5u128.pow(exponent));
+    let value = odd_powers.take_while(|&power| power < 1 << width).last();
+    Value { refusal: 0, value: value.unwrap_or(0) as u64 }
+}
+
+// Lines and archives.
+
+pub fn write_line(run: Run, buffer: &mut [u8]) -> Value {
+    let line = run.line();
+    let refusal = match run_refusal(run) {
+        0 if buffer.len() < line.len() => BUFFER_TOO_SHORT,
+        refusal => refusal,
+    };
+    if refusal != 0 {
+        return Value { refusal, value: 0 };
+    }
+    buffer[..line.len()].copy_from_slice(&line);
+    Value { refusal: 0, value: line.len() as u64 }
+}
+
+fn field(text: &[u8]) -> Option<u64> {
+    let canonical = text == b"0" || !text.starts_with(b"0");
+    if !canonical || !text.iter().all(u8::is_ascii_digit) {
+        return None;
+    }
+    std::str::from_utf8(text).ok()?.parse().ok()
+}
+
+/// The run of a line, or the refusal.
+fn parsed(line: &[u8]) -> Result<Run, u64> {
+    let text = line.strip_suffix(b"\n").ok_or(MALFORMED_LINE)?;
+    let fields: Option<Vec<u64>> = text.split(|&byte| byte == b',').map(field).collect();
+    let numbers = fields.and_then(|fields| fields.try_into().ok()).ok_or(MALFORMED_LINE)?;
+    let run = Run::of(numbers);
+    match run_refusal(run) {
+        0 => Ok(run),
+        refusal => Err(refusal),
+    }
+}
+
+pub fn read_line(bytes: &[u8]) -> RunReply {
+    parsed(bytes).map_or_else(RunReply::refused, RunReply::accepted)
+}
+
+fn lines(archive: &[u8]) -> impl Iterator<Item = &[u8]> {
+    archive.split_inclusive(|&byte| byte == b'\n')
+}
+
+/// The runs of an archive, or the refusal and the line that it concerns.
+fn runs(archive: &[u8]) -> Result<Vec<Run>, (u64, u64)> {
+    if archive.len() > ARCHIVE_LIMIT {
+        return Err((ARCHIVE_TOO_LONG, 0));
+    }
+    let numbered = lines(archive).zip(1..);
+    numbered.map(|(line, number)| parsed(line).map_err(|refusal| (refusal, number))).collect()
+}
+
+pub fn line(archive: &[u8], number: u64) -> Part {
+    if runs(archive).is_err() {
+        return Part::default();
+    }
+    let mut start = 0;
+    for (line, line_number) in lines(archive).zip(1..) {
+        let length = line.len() as u64;
+        if line_number == number {
+            return Part { start, length };
+        }
+        start += length;
+    }
+    Part::default()
+}
+
+pub fn lookup(archive: &[u8], number: u64) -> LookupReply {
+    let runs = match runs(archive) {
+        Ok(runs) => runs,
+        Err((refusal, line)) => return LookupReply { refusal, line, found: 0, position: 0 },
+    };
+    let mut places = runs.iter().zip(1..).filter_map(|(&run, line)| Some((line, position_of(run, number)?)));
+    match places.next() {
+        Some((line, position)) => LookupReply { refusal: 0, line, found: 1, position },
+        None => LookupReply::default(),
+    }
+}
+
+#[cfg(test)]
+mod tests {
+    use super::*;
+
+    /// The reply to one call of ../reference/vectors.txt, its bytes without their count.
+    fn reply(code: &str, n: &[u64]) -> Vec<u64> {
+        let bytes = |from: usize| n[from + 1..].iter().map(|&byte| byte as u8).collect::<Vec<u8>>();
+        let g = |n: &[u64]| Generator { width: n[0], multiplier: n[1], increment: n[2], seed: n[3] };
+        let run = |n: &[u64]| Run { generator: g(n), first: n[4], count: n[5] };
+        let value = |v: Value| vec![v.refusal, v.value];
+        match code {
+            "E" => value(element(g(n), n[4])),
+            "P" => value(predecessor(g(n), n[4])),
+            "C" => value(customary_multiplier(n[0])),
+            "V" => value(variety(run(n))),
+            "W" => value(write_line(run(n), &mut vec![0; n[6] as usize])),
+            "O" => {
+                let r = orbit(g(n));
+                vec![r.refusal, r.preperiod, r.exponent]
+            }
+            "I" => {
+                let r = index(g(n), n[4]);
+                vec![r.refusal, r.found, r.index]
+            }
+            "R" => {
+                let r = read_line(&bytes(0));
+                vec![r.refusal, r.width, r.multiplier, r.increment, r.seed, r.first, r.count]
+            }
+            "L" => {
+                let r = line(&bytes(1), n[0]);
+                vec![r.start, r.length]
+            }
+            "F" => {
+                let r = lookup(&bytes(1), n[0]);
+                vec![r.refusal, r.line, r.found, r.position]
+            }
+            _ => panic!("no call {code}"),
+        }
+    }
+
+    #[test]
+    fn model_agrees_with_the_reference() {
+        let calls = include_str!("../../reference/calls").lines();
+        for (call, expected) in calls.zip(include_str!("../../reference/expected").lines()) {
+            let (code, numbers) = call.split_once(',').unwrap();
+            let numbers: Vec<u64> = numbers.split(',').map(|n| n.parse().unwrap()).collect();
+            let got: Vec<String> = reply(code, &numbers).iter().map(u64::to_string).collect();
+            assert_eq!(got.join(","), expected, "{call}");
+        }
+    }
+}

@@ -1,0 +1,237 @@
+//! The library's own methods in plain Rust, to measure it against: jumps by halving the index, the
+//! search up the bit places, lines in one pass.
+
+use crate::calls::*;
+
+/// The map of some number of steps: times `factor`, plus `summand`, modulo 2^64.
+#[derive(Clone, Copy)]
+struct Map {
+    factor: u64,
+    summand: u64,
+}
+
+impl Map {
+    fn step(g: Generator) -> Map {
+        Map { factor: g.multiplier, summand: g.increment }
+    }
+
+    fn apply(self, x: u64) -> u64 {
+        self.factor.wrapping_mul(x).wrapping_add(self.summand)
+    }
+
+    fn then(self, next: Map) -> Map {
+        Map { factor: self.factor.wrapping_mul(next.factor), summand: next.apply(self.summand) }
+    }
+}
+
+/// The map of `count` steps, made from that of half as many.
+fn steps(one: Map, count: u64) -> Map {
+    if count == 0 {
+        return Map { factor: 1, summand: 0 };
+    }
+    let half = steps(one, count / 2);
+    let even = half.then(half);
+    if count % 2 == 1 {
+        even.then(one)
+    } else {
+        even
+    }
+}
+
+fn mask(width: u64) -> u64 {
+    u64::MAX >> (64 - width)
+}
+
+fn generator_refusal(g: Generator) -> u64 {
+    if g.width == 0 || g.width > 64 {
+        return WIDTH_OUT_OF_RANGE;
+    }
+    let top = mask(g.width);
+    if g.multiplier > top || g.increment > top || g.seed > top {
+        return OPERAND_OUT_OF_RANGE;
+    }
+    0
+}
+
+fn run_refusal(run: Run) -> u64 {
+    let refusal = generator_refusal(run.generator);
+    if refusal == 0 && (run.count == 0 || run.count > u64::MAX - run.first) {
+        return RUN_OUT_OF_RANGE;
+    }
+    refusal
+}
+
+fn element_of(g: Generator, index: u64) -> u64 {
+    steps(Map::step(g), index).apply(g.seed) & mask(g.width)
+}
+
+/// For an odd multiplier. Up to each place `index` is the least index that agrees with the number,
+/// x its element, and `cycle` the map of 2^exponent steps, the cycle of the places so far.
+fn index_up_the_places(g: Generator, number: u64) -> Option<u64> {
+    let (mut index, mut x, mut cycle, mut exponent) = (0, g.seed, Map::step(g), 0);
+    for place in 0..g.width {
+        let next = cycle.apply(x);
+        let doubles = next.wrapping_sub(x).trailing_zeros() as u64 == place;
+        if x.wrapping_sub(number).trailing_zeros() as u64 == place {
+            if !doubles {
+                return None;
+            }
+            index += 1 << exponent;
+            x = next;
+        }
+        if doubles {
+            cycle = cycle.then(cycle);
+            exponent += 1;
+        }
+    }
+    Some(index)
+}
+
+/// For an even multiplier, whose sequence stands still after at most n steps.
+fn index_by_steps(g: Generator, number: u64) -> Option<u64> {
+    let mut x = g.seed;
+    for index in 0..=g.width {
+        if x == number {
+            return Some(index);
+        }
+        x = Map::step(g).apply(x) & mask(g.width);
+    }
+    None
+}
+
+fn index_of(g: Generator, number: u64) -> Option<u64> {
+    if number > mask(g.width) {
+        None
+    } else if g.multiplier % 2 == 1 {
+        index_up_the_places(g, number)
+    } else {
+        index_by_steps(g, number)
+    }
+}
+
+#[inline(never)]
+pub fn element(g: Generator, index: u64) -> Value {
+    match generator_refusal(g) {
+        0 => Value { refusal: 0, value: element_of(g, index) },
+        refusal => Value { refusal, value: 0 },
+    }
+}
+
+#[inline(never)]
+pub fn index(g: Generator, number: u64) -> IndexReply {
+    let refusal = generator_refusal(g);
+    if refusal != 0 {
+        return IndexReply { refusal, found: 0, index: 0 };
+    }
+    match index_of(g, number) {
+        Some(index) => IndexReply { refusal: 0, found: 1, index },
+        None => IndexReply::default(),
+    }
+}
+
+fn digits(number: u64) -> usize {
+    1 + number.checked_ilog10().unwrap_or(0) as usize
+}
+
+fn write_field(number: u64, field: &mut [u8]) {
+    let mut rest = number;
+    for byte in field.iter_mut().rev() {
+        *byte = b'0' + (rest % 10) as u8;
+        rest /= 10;
+    }
+}
+
+#[inline(never)]
+pub fn write_line(run: Run, buffer: &mut [u8]) -> Value {
+    let refusal = run_refusal(run);
+    if refusal != 0 {
+        return Value { refusal, value: 0 };
+    }
+    let numbers = run.numbers();
+    let length: usize = numbers.iter().map(|&number| digits(number) + 1).sum();
+    if buffer.len() < length {
+        return Value { refusal: BUFFER_TOO_SHORT, value: 0 };
+    }
+    let mut at = 0;
+    for number in numbers {
+        let end = at + digits(number);
+        write_field(number, &mut buffer[at..end]);
+        buffer[end] = b',';
+        at = end + 1;
+    }
+    buffer[length - 1] = b'\n';
+    Value { refusal: 0, value: length as u64 }
+}
+
+/// The field that begins at `at` and is ended by the given byte, and what follows behind that.
+fn field(bytes: &[u8], at: usize, end: u8) -> Option<(u64, usize)> {
+    let (mut number, mut next) = (0u64, at);
+    while next < bytes.len() && bytes[next].is_ascii_digit() {
+        let digit = (bytes[next] - b'0') as u64;
+        if number > (u64::MAX - digit) / 10 {
+            return None;
+        }
+        number = 10 * number + digit;
+        next += 1;
+    }
+    let canonical = next == at + 1 || (next > at && bytes[at] != b'0');
+    (canonical && next < bytes.len() && bytes[next] == end).then_some((number, next + 1))
+}
+
+/// The run whose line begins at `at`, and where the next line begins.
+fn read(bytes: &[u8], at: usize) -> Result<(Run, usize), u64> {
+    let (mut numbers, mut next) = ([0; 6], at);
+    for (number, end) in numbers.iter_mut().zip(*b",,,,,\n") {
+        (*number, next) = field(bytes, next, end).ok_or(MALFORMED_LINE)?;
+    }
+    let run = Run::of(numbers);
+    match run_refusal(run) {
+        0 => Ok((run, next)),
+        refusal => Err(refusal),
+    }
+}
+
+#[inline(never)]
+pub fn read_line(bytes: &[u8]) -> RunReply {
+    match read(bytes, 0) {
+        Ok((run, end)) if end == bytes.len() => RunReply::accepted(run),
+        Ok(_) => RunReply::refused(MALFORMED_LINE),
+        Err(refusal) => RunReply::refused(refusal),
+    }
+}
+
+/// Calls `visit` with each run and its line's number until it gives an answer.
+fn each_run<T>(
+    archive: &[u8],
+    mut visit: impl FnMut(Run, u64) -> Option<T>,
+) -> Result<Option<T>, (u64, u64)> {
+    let (mut at, mut line) = (0, 1);
+    while at < archive.len() {
+        let (run, next) = read(archive, at).map_err(|refusal| (refusal, line))?;
+        if let Some(answer) = visit(run, line) {
+            return Ok(Some(answer));
+        }
+        (at, line) = (next, line + 1);
+    }
+    Ok(None)
+}
+
+fn place_in(run: Run, line: u64, number: u64) -> Option<LookupReply> {
+    let seed = element_of(run.generator, run.first);
+    let position = index_of(Generator { seed, ..run.generator }, number)?;
+    (position < run.count).then_some(LookupReply { refusal: 0, line, found: 1, position })
+}
+
+/// The whole archive is checked first, then searched.
+#[inline(never)]
+pub fn lookup(archive: &[u8], number: u64) -> LookupReply {
+    if archive.len() > ARCHIVE_LIMIT {
+        return LookupReply { refusal: ARCHIVE_TOO_LONG, ..LookupReply::default() };
+    }
+    let checked = each_run(archive, |_, _| None::<()>);
+    let found = checked.and_then(|_| each_run(archive, |run, line| place_in(run, line, number)));
+    match found {
+        Ok(place) => place.unwrap_or_default(),
+        Err((refusal, line)) => LookupReply { refusal, line, ..LookupReply::default() },
+    }
+}

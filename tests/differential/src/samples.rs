@@ -1,0 +1,237 @@
+//! Random arguments for the calls: mostly accepted ones of every kind, some that are refused, and
+//! lines and archives of both sorts.
+
+use crate::calls::*;
+use crate::model;
+use crate::random::Random;
+
+const REFUSED_WIDTHS: [u64; 6] = [0, 65, 66, 128, 1 << 32, u64::MAX];
+
+/// The lowest `width` bits set.
+fn top(width: u64) -> u64 {
+    u64::MAX >> (64 - width)
+}
+
+// Generators and runs.
+
+fn multiplier(r: &mut Random, width: u64) -> u64 {
+    let power = 1 << r.below(width);
+    let odd = r.bits(width) | 1;
+    let choices = [odd, odd, odd, odd & !1, 0, 1, top(width), power + 1, power - 1, odd.wrapping_mul(power)];
+    r.pick(&choices) & top(width)
+}
+
+/// The increment with which element 1 less element 0 is `difference`.
+fn increment_for(difference: u64, multiplier: u64, seed: u64) -> u64 {
+    difference.wrapping_add(seed).wrapping_sub(multiplier.wrapping_mul(seed))
+}
+
+/// An accepted generator. The difference of its first elements often ends in many zero bits,
+/// which shortens the cycle.
+pub fn accepted_generator(r: &mut Random, width: u64) -> Generator {
+    let multiplier = multiplier(r, width);
+    let shifts = [0, r.below(width), r.below(width)];
+    let seed = (r.bits(width) << r.pick(&shifts)) & top(width);
+    let shortened = increment_for(r.bits(width) << r.below(width), multiplier, seed);
+    let choices = [r.bits(width) | 1, r.bits(width) & !1, 0, shortened];
+    Generator { width, multiplier, increment: r.pick(&choices) & top(width), seed }
+}
+
+/// The same with a width or operand that is refused, or by chance not.
+fn spoiled_generator(r: &mut Random, g: Generator) -> Generator {
+    let above = top(g.width).saturating_add(1 + r.pick(&[0, 0, 1, u64::MAX - 1]));
+    match r.below(6) {
+        0 => Generator { width: r.pick(&REFUSED_WIDTHS), ..g },
+        1 => Generator { width: r.below(g.width), ..g },
+        2 => Generator { multiplier: above, ..g },
+        3 => Generator { increment: above, ..g },
+        4 => Generator { seed: above, ..g },
+        _ => Generator { width: r.any(), multiplier: r.any(), increment: r.any(), seed: r.any() },
+    }
+}
+
+pub fn generator(r: &mut Random) -> Generator {
+    let width = 1 + r.below(64);
+    let g = accepted_generator(r, width);
+    if r.one_in(16) {
+        spoiled_generator(r, g)
+    } else {
+        g
+    }
+}
+
+pub fn index(r: &mut Random) -> u64 {
+    let choices = [r.word(), r.any(), r.any(), r.below(100), u64::MAX - r.below(100)];
+    r.pick(&choices)
+}
+
+/// A number on the generator's orbit, near it, anywhere, or too wide.
+pub fn number(r: &mut Random, g: Generator) -> u64 {
+    let i = index(r);
+    let shown = model::element(g, i).value;
+    let near = shown ^ 1 << r.below(g.width.clamp(1, 64));
+    let choices = [shown, shown, shown, near, shown ^ 1 << r.below(64), r.any()];
+    r.pick(&choices)
+}
+
+fn accepted_run(r: &mut Random, generator: Generator) -> Run {
+    let firsts = [0, r.below(100), r.any(), r.word(), u64::MAX - 1 - r.below(100)];
+    let first = r.pick(&firsts).min(u64::MAX - 1);
+    let longest = u64::MAX - first;
+    let counts = [1, 1 + r.below(100), 1 + r.any() / 2, longest];
+    Run { generator, first, count: r.pick(&counts).min(longest) }
+}
+
+pub fn run(r: &mut Random) -> Run {
+    let generator = generator(r);
+    let run = accepted_run(r, generator);
+    match r.below(32) {
+        0 => Run { count: 0, ..run },
+        1 => Run { count: (u64::MAX - run.first).saturating_add(1), ..run },
+        2 => Run { first: r.any(), count: r.any(), ..run },
+        _ => run,
+    }
+}
+
+/// What some position of an accepted run shows, often one of the first.
+fn shown_number(r: &mut Random, run: Run) -> u64 {
+    let position = r.below(run.count);
+    let near = position.min(r.below(4));
+    model::element_of(run.generator, run.first + r.pick(&[position, near]))
+}
+
+// Lines.
+
+/// Any byte, mostly one that might belong to a line.
+fn a_byte(r: &mut Random) -> u8 {
+    if r.one_in(4) {
+        r.word() as u8
+    } else {
+        r.pick(b"0123456789,,\n\r -+")
+    }
+}
+
+const UNREADABLE: [&str; 9] = ["", "00", "+1", "-1", " 1", "1 ", "0x1", "1.0", "18446744073709551616"];
+const UNFIT: [&str; 4] = ["0", "1", "65", "18446744073709551615"];
+
+/// The line with one of its fields changed, moved, added or removed.
+fn with_bad_field(r: &mut Random, line: &[u8]) -> Vec<u8> {
+    let text = String::from_utf8_lossy(line);
+    let mut fields: Vec<String> = text.trim_end().split(',').map(String::from).collect();
+    let at = r.below(fields.len() as u64) as usize;
+    let other = r.below(fields.len() as u64) as usize;
+    match r.below(8) {
+        0 => fields[at].insert(0, '0'),
+        1 => fields[at] = (u64::MAX as u128 + 1 + r.any() as u128).to_string(),
+        2 => fields[at] += "0000000000000000000000",
+        3 => fields[at] = r.pick(&UNREADABLE).into(),
+        4 => fields[at] = r.pick(&UNFIT).into(),
+        5 => fields.swap(at, other),
+        6 => fields.insert(at, "1".into()),
+        _ => drop(fields.remove(at)),
+    }
+    (fields.join(",") + "\n").into_bytes()
+}
+
+/// Bytes with one thing changed.
+pub fn damaged(r: &mut Random, mut bytes: Vec<u8>) -> Vec<u8> {
+    let at = r.below(bytes.len() as u64 + 1) as usize;
+    let end = bytes.len().saturating_sub(1);
+    match r.below(8) {
+        0 if at < bytes.len() => bytes[at] = a_byte(r),
+        1 if at < bytes.len() => drop(bytes.remove(at)),
+        2 => bytes.insert(at, a_byte(r)),
+        3 => bytes.truncate(at),
+        4 => bytes.truncate(end),
+        5 => bytes.insert(end, b'\r'),
+        6 => bytes.push(b'\n'),
+        _ => bytes.extend_from_within(at..),
+    }
+    bytes
+}
+
+fn damaged_line(r: &mut Random, line: Vec<u8>) -> Vec<u8> {
+    if r.one_in(2) {
+        with_bad_field(r, &line)
+    } else {
+        damaged(r, line)
+    }
+}
+
+/// The bytes of a line, often damaged.
+pub fn line(r: &mut Random) -> Vec<u8> {
+    let line = run(r).line();
+    if r.one_in(2) {
+        damaged_line(r, line)
+    } else {
+        line
+    }
+}
+
+// Archives.
+
+/// An archive's bytes, and numbers to look for: some are shown by one of its lines.
+pub struct Archive {
+    pub bytes: Vec<u8>,
+    pub numbers: Vec<u64>,
+}
+
+fn archive_run(r: &mut Random) -> Run {
+    let widths = [1 + r.below(64), 1 + r.below(8)];
+    let width = r.pick(&widths);
+    let g = accepted_generator(r, width);
+    accepted_run(r, g)
+}
+
+fn numbers_for(r: &mut Random, runs: &[Run], count: usize) -> Vec<u64> {
+    let mut one = || match runs {
+        [] => r.any(),
+        _ if r.one_in(4) => r.any(),
+        _ => {
+            let run = r.pick(runs);
+            shown_number(r, run)
+        }
+    };
+    (0..count).map(|_| one()).collect()
+}
+
+/// Up to 40 lines, one time in four with a damaged one.
+pub fn archive(r: &mut Random, numbers: usize) -> Archive {
+    let most = r.below(41);
+    let runs: Vec<Run> = (0..r.below(most + 1)).map(|_| archive_run(r)).collect();
+    let numbers = numbers_for(r, &runs, numbers);
+    let mut lines: Vec<Vec<u8>> = runs.iter().map(Run::line).collect();
+    if !lines.is_empty() && r.one_in(4) {
+        let at = r.below(lines.len() as u64) as usize;
+        lines[at] = damaged_line(r, lines[at].clone());
+    }
+    Archive { bytes: lines.concat(), numbers }
+}
+
+/// An accepted run whose line has this length, from 13 to 85 bytes.
+fn run_of_length(length: usize) -> Run {
+    let mut numbers = [64, 1, 1, 1, 1, 1];
+    let mut digits = length - 13;
+    for number in &mut numbers[1..5] {
+        let more = digits.min(18);
+        *number = 10u64.pow(more as u32);
+        digits -= more;
+    }
+    Run::of(numbers)
+}
+
+/// An archive of exactly this length, all of whose lines are accepted.
+pub fn archive_of_length(r: &mut Random, length: usize, numbers: usize) -> Archive {
+    let mut bytes = Vec::with_capacity(length);
+    let mut runs = Vec::new();
+    while bytes.len() < length {
+        let run = match length - bytes.len() {
+            left @ 0..=85 => run_of_length(left),
+            left @ 86..=191 => run_of_length((left / 2).min(85)),
+            _ => archive_run(r),
+        };
+        bytes.extend(run.line());
+        runs.push(run);
+    }
+    Archive { bytes, numbers: numbers_for(r, &runs, numbers) }
+}

@@ -1,0 +1,358 @@
+"""Writes the test vectors: calls with the replies of the reference. Always the same ones.
+
+    make_vectors.py [FOLDER]      (without it: crates/vectors)
+
+The file stdin has one call a line, as decimal numbers parted by commas behind the call's letter:
+
+    E  element               width, multiplier, increment, seed, index   refusal, value
+    O  orbit                 width, multiplier, increment, seed          refusal, preperiod, exponent
+    I  index                 width, multiplier, increment, seed, number  refusal, found, index
+    P  predecessor           width, multiplier, increment, seed, number  refusal, value
+    C  customary multiplier  width                                       refusal, value
+    V  variety               the six numbers of a run                    refusal, value
+    W  write line            the six numbers of a run, buffer's length   refusal, length
+    R  read line             count of bytes, the bytes                   refusal, the six numbers
+    L  line                  number, count of bytes, the bytes           start, length
+    F  lookup (find)         number, count of bytes, the bytes           refusal, line, found, position
+
+The file stdout has the reply to each, the numbers on the right. No call has more than 250 numbers.
+"""
+
+import random
+import sys
+from itertools import product
+from pathlib import Path
+
+import reference as ref
+
+SEED = 20260101
+TOP = 2**64 - 1
+REFUSED_WIDTHS = (0, 65, 66, 128, 2**32, 2**63, TOP)
+
+REPLY = {
+    "E": ref.element,
+    "O": ref.orbit,
+    "I": ref.index,
+    "P": ref.predecessor,
+    "C": ref.customary_multiplier,
+    "V": ref.variety,
+    "W": ref.write_line,
+    "R": ref.read_line,
+    "L": lambda number, archive: ref.line(archive, number),
+    "F": lambda number, archive: ref.lookup(archive, number),
+}
+
+
+# Random choices. Only getrandbits is used, which gives the same bits in every Python.
+
+source = random.Random(SEED)
+
+
+def below(limit):
+    return source.getrandbits(80) % limit
+
+
+def pick(choices):
+    return choices[below(len(choices))]
+
+
+def multipliers(width):
+    """One multiplier of each kind: odd, even, 0, 1, the largest, beside a power of two."""
+    size = 2**width
+    beside = 2 ** below(width) + pick((-1, 1))
+    return below(size) | 1, below(size) & ~1, 0, 1, size - 1, beside % size
+
+
+def increments(width):
+    """Zero, odd, even."""
+    size = 2**width
+    return 0, below(size) | 1, below(size) & ~1
+
+
+def a_seed(width):
+    size = 2**width
+    return pick((0, 1, size - 1, below(size), (below(size) << below(width)) % size))
+
+
+def generators():
+    """For each width one generator of each kind of multiplier; over the widths each of these
+    meets each kind of increment."""
+    for width in range(1, 65):
+        for kind, multiplier in enumerate(multipliers(width)):
+            increment = increments(width)[(kind + width) % 3]
+            yield width, multiplier, increment, a_seed(width)
+
+
+def an_index(width):
+    return pick((0, 1, TOP, 2**width - 1, 2**width % 2**64, below(2**64), 2 ** below(64)))
+
+
+def a_number(generator):
+    """On the orbit, near it, anywhere, or too wide."""
+    width, seed = generator[0], generator[3]
+    shown = ref.element(*generator, an_index(width))[1]
+    near = shown ^ 1 << below(width)
+    return pick((shown, shown, near, below(2**width), seed, min(2**width + below(2), TOP)))
+
+
+def a_run(generator):
+    first = pick((0, 1, below(2**64), 2 ** below(64), TOP - 1))
+    count = 1 + pick((0, below(16), below(TOP - first), TOP - first - 1))
+    return *generator, first, min(count, TOP - first)
+
+
+# The calls, as a letter and its arguments.
+
+
+def valid_calls():
+    for g in generators():
+        run = a_run(g)
+        length = len(ref.line_of(run))
+        yield "O", g
+        yield "E", (*g, an_index(g[0]))
+        yield "E", (*g, below(2**64))
+        yield "I", (*g, a_number(g))
+        yield "I", (*g, a_number(g))
+        yield "P", (*g, a_number(g))
+        yield "V", run
+        yield "W", (*run, length + pick((0, 0, 1, -1, 13, -length)))
+
+
+def calls_with(generator):
+    """One call of each kind on a generator, with plain other arguments."""
+    yield "O", generator
+    for code in "EIP":
+        yield code, (*generator, 0)
+    yield "V", (*generator, 0, 1)
+    yield "W", (*generator, 0, 1, 120)
+
+
+def refused_generators():
+    for width in REFUSED_WIDTHS:
+        yield from calls_with((width, 0, 0, 0))
+        yield from calls_with((width, TOP, TOP, TOP))
+    for width in range(1, 64, 3):
+        for place, excess in product(range(1, 4), (0, 1, TOP - 2**width)):
+            g = [width, 1, 0, 0]
+            g[place] = 2**width + excess
+            yield pick(list(calls_with(tuple(g))))
+
+
+def refused_runs():
+    g = 4, 5, 3, 1
+    for first, count in ((0, 0), (TOP, 0), (TOP, 1), (TOP - 1, 2), (2, TOP - 1), (TOP, TOP)):
+        yield "V", (*g, first, count)
+        yield "W", (*g, first, count, 120)
+        yield "R", (ref.line_of((*g, first, count)),)
+        yield "W", (*g, first, count, 0)
+
+
+def bounds():
+    """The bounds of document 01, each with its neighbour, and its row that is not proved."""
+    yield from calls_with((64, TOP, TOP, TOP))
+    yield from calls_with((4, 15, 15, 15))
+    yield from calls_with((4, 16, 15, 15))
+    for first, count in ((TOP - 1, 1), (TOP - 1, 2), (0, TOP), (1, TOP), (0, 0)):
+        yield "V", (64, 1, 1, 0, first, count)
+        yield "R", (ref.line_of((4, 5, 3, 1, first, count)),)
+    yield "R", (b"4,5,3,1,07,2\n",)
+    yield "F", (0, b"")
+    yield "R", (b"",)
+    yield "R", (ref.line_of((64, TOP, TOP, TOP, TOP - 10**18, 10**18)),)
+    always = 4, 1, 0, 9
+    for i in (*range(20), TOP):
+        yield "E", (*always, i)
+    yield "O", always
+    for y in range(17):
+        yield "I", (*always, y)
+    for width in (*range(67), *REFUSED_WIDTHS):
+        yield "C", (width,)
+
+
+# Of document 001, table 1 (seeds where it has none: 0, 1), and one of even multiplier.
+KNOWN = (
+    (32, 16807, 273905815, 57794127),
+    (36, 30517578125, 7261067085, 0),
+    (39, 152587890725, 116177073375, 131131704506),
+    (35, 129, 1, 0),
+    (13, 125, 0, 1),
+    (64, 6, 1, 1),
+)
+
+
+def long_sequences():
+    """The first elements in a row and the last ones that can be asked for."""
+    for g in KNOWN:
+        for i in (*range(40), *range(TOP - 20, TOP + 1)):
+            yield "E", (*g, i)
+
+
+# Width 64: full period; only multiplied, with odd and even seeds; multipliers 1, 2^64 - 1, 0 and even.
+WIDE = (
+    (64, 6364136223846793005, 1442695040888963407, 0),
+    (64, 5, 3, 1),
+    (64, 3, 0, 1),
+    (64, 13, 0, 2**40 + 1),
+    (64, 5, 0, 6),
+    (64, 11, 0, 2**63),
+    (64, 1, 1, 0),
+    (64, 1, 2**33, 5),
+    (64, TOP, 7, 3),
+    (64, TOP, 0, 1),
+    (64, 0, 9, 4),
+    (64, 0, 9, 9),
+    (64, 2, 1, 1),
+    (64, 2**32, 5, 9),
+    (64, TOP - 1, 2**20, 77),
+)
+
+
+def wide_calls():
+    """Each index that is found is followed by the element there."""
+    for g in WIDE:
+        yield "O", g
+        shown = [ref.element(*g, i)[1] for i in (0, 1, 3, 64, below(2**64), TOP)]
+        for number in (*shown, *(x ^ 1 << below(64) for x in shown), below(2**64), 0, TOP):
+            yield "I", (*g, number)
+            refusal, found, index = ref.index(*g, number)
+            if found:
+                yield "E", (*g, index)
+
+
+def printed_tables():
+    """The entries of Tables 2, 3 and 4 of document 000 as elements, and their indices."""
+    powers, sums = (35, 129, 0, 1), (35, 129, 1, 0)
+    for z in range(35):
+        for g, i in ((powers, 2**z), (sums, 2**z), (powers, 2**35 - 2**z)):
+            yield "E", (*g, i)
+            yield "I", (*g, ref.element(*g, i)[1])
+
+
+def one_way():
+    """Predecessors refused for the number, the multiplier, or both."""
+    for width in range(1, 65, 7):
+        for multiplier, number in product((0, 1), (0, 2**width, TOP)):
+            yield "P", (width, multiplier, 0, 0, min(number, TOP))
+
+
+UNREADABLE = b"", b"07", b"00", b"+1", b"-1", b" 1", b"1 ", b"x", b"1e3", b"18446744073709551616", b"9" * 30
+UNFIT = b"0", b"65", b"4096", b"18446744073709551615"
+
+
+def damaged(line):
+    """The line with one thing wrong, or by chance not."""
+    at = below(len(line))
+    fields = line[:-1].split(b",")
+    changed = list(fields)
+    changed[below(6)] = pick(pick((UNREADABLE, UNFIT)))
+    return pick(
+        (
+            line[:at] + bytes([below(256)]) + line[at + 1 :],
+            line[:at] + pick((b"0", b",", b"\n", b"\r", b" ", b"9")) + line[at:],
+            line[:at] + line[at + 1 :],
+            line[:-1],
+            line[:-1] + b"\r\n",
+            line + b"\n",
+            line + line,
+            b",".join(changed) + b"\n",
+            b",".join(changed) + b"\n",
+            b",".join(reversed(fields)) + b"\n",
+            b",".join(fields[:5]) + b"\n",
+            b",".join(fields + [b"1"]) + b"\n",
+        )
+    )
+
+
+def short_runs():
+    """Runs of small numbers, so that archives stay short and share some of what they show."""
+    for _ in range(120):
+        width = 1 + below(12)
+        operands = (below(2**width) for _ in range(3))
+        yield width, *operands, pick((0, below(30), below(2**64 - 100))), 1 + below(40)
+
+
+def wide_runs():
+    return [a_run(g) for g in generators() if g[0] % 5 == 0]
+
+
+def reading_calls():
+    for run in (*short_runs(), *wide_runs()):
+        line = ref.line_of(run)
+        yield "R", (line,)
+        yield "R", (damaged(line),)
+
+
+def a_shown_number(run):
+    *generator, first, count = run
+    return ref.element(*generator, first + below(count))[1]
+
+
+def an_archive(runs):
+    """The runs' lines as far as they fit the size of a vector; now and then one is damaged."""
+    lines = [ref.line_of(run) for run in runs]
+    if lines and below(4) == 0:
+        at = below(len(lines))
+        lines[at] = damaged(lines[at])
+    while sum(map(len, lines)) > 240:
+        lines.pop()
+    return b"".join(lines)
+
+
+def archive_calls():
+    pool = [*short_runs(), *wide_runs()]
+    for _ in range(300):
+        runs = [pick(pool) for _ in range(below(7))]
+        archive = an_archive(runs)
+        number = a_shown_number(pick(runs)) if runs and below(4) else below(2 ** (1 + below(12)))
+        yield "F", (number, archive)
+        yield "L", (pick((0, 1, 1 + below(4), len(runs), TOP)), archive)
+    for number in (5, 49, 985):
+        yield "F", (number, b"4,5,3,1,0,16\n10,371,995,73,100,8\n")
+
+
+def refused_archives():
+    """Two bad lines behind a good one that shows the number: the earlier of them is named."""
+    good = b"4,5,3,1,0,16\n"
+    bad = b"4,5,3,1,0\n", b"0,5,3,1,0,16\n", b"4,16,3,1,0,16\n", b"4,5,3,1,0,0\n", b"0,16,3,1,0,0\n"
+    for earlier, later in product(bad, repeat=2):
+        archive = good + earlier + good + later
+        yield "F", (5, archive)
+        yield "L", (1, archive)
+
+
+def all_calls():
+    refused = refused_generators, refused_runs, one_way, refused_archives
+    parts = bounds, *refused, long_sequences, wide_calls, printed_tables, valid_calls, reading_calls, archive_calls
+    return dict.fromkeys((code, tuple(args)) for part in parts for code, args in part())
+
+
+# Their text.
+
+
+def numbers_of(args):
+    for arg in args:
+        if isinstance(arg, bytes):
+            yield len(arg)
+            yield from arg
+        else:
+            yield arg
+
+
+def joined(*parts):
+    return ",".join(map(str, parts))
+
+
+def main(folder):
+    calls, replies = [], []
+    for code, args in all_calls():
+        numbers = list(numbers_of(args))
+        assert len(numbers) <= 250 and all(0 <= number <= TOP for number in numbers)
+        calls.append(joined(code, *numbers))
+        replies.append(joined(*REPLY[code](*args)))
+    for name, lines in (("stdin", calls), ("stdout", replies)):
+        (folder / name).write_text("".join(f"{line}\n" for line in lines))
+    print(f"{len(calls)} calls")
+
+
+if __name__ == "__main__":
+    main(Path(sys.argv[1]) if len(sys.argv) > 1 else Path(__file__).resolve().parents[2] / "crates/vectors")

@@ -1,0 +1,371 @@
+#!/usr/bin/env bash
+# Runs the program `runfind` on many questions and archives, each in a folder of its own, and
+# compares what it prints byte for byte. What it should print is written out here, or comes from
+# the reference beside this file. Its exit status and standard error don't matter, but it must end.
+#
+#     runfind.sh PROGRAM
+
+set -u
+shopt -s lastpipe # the end of a pipe counts in this shell
+export LC_ALL=C PYTHONDONTWRITEBYTECODE=1
+
+if [ $# -ne 1 ] || [ ! -x "$1" ]; then
+    echo 'usage: runfind.sh PROGRAM' >&2
+    exit 2
+fi
+program=$(realpath "$1")
+reference=$(dirname "$(realpath "$0")")/reference
+work=$(mktemp -d) || exit 2
+trap 'rm -rf "$work"' EXIT
+chmod 755 "$work"
+folder=$work/folder
+limit=60 # seconds for one run
+compared=0
+failed=0
+
+# Building blocks. Texts go through printf's %b: \n is byte 10, \r byte 13, \0NNN any byte.
+
+# fresh: an empty folder for the next runs.
+fresh() {
+    rm -rf "$folder"
+    mkdir "$folder"
+}
+
+# archive TEXT: a fresh folder with this archive.
+archive() {
+    fresh
+    printf '%b' "$1" >"$folder/archive.csv"
+}
+
+# repeated COUNT LINE: the line so many times.
+repeated() {
+    yes "$2" | head -n "$1"
+}
+
+# shown LINE POSITION: the number at this position of the line's run, by the reference.
+shown() {
+    PYTHONPATH=$reference python3 -c '
+import sys, reference
+*generator, first, _ = map(int, sys.argv[1].split(","))
+print(reference.element(*generator, first + int(sys.argv[2]))[1])' "$1" "$2"
+}
+
+# report VERDICT TEXT
+report() {
+    compared=$((compared + 1))
+    [ "$1" = ok ] || failed=$((failed + 1))
+    printf '%-4s %s\n' "$1" "$2"
+}
+
+# prints NAME WANTED [COMMAND..]: the program, with COMMAND before it, reads this function's
+# standard input and prints WANTED and byte 10.
+prints() {
+    local name=$1 wanted=$2
+    shift 2
+    (cd "$folder" && exec timeout "$limit" "$@" "$program") >"$work/printed" 2>"$work/errors"
+    if [ $? -eq 124 ]; then
+        report FAIL "$name: did not end, so the rest is not tried"
+        exit 1
+    elif printf '%s\n' "$wanted" | cmp -s - "$work/printed"; then
+        report ok "$name: $wanted"
+    else
+        report FAIL "$name: wanted $wanted, got$(head -c 200 "$work/printed" | od -An -c | tr -s ' \n' ' ')"
+    fi
+}
+
+# answers NAME QUESTION WANTED: the same, with this text as standard input.
+answers() {
+    printf '%b' "$2" | prints "$1" "$3"
+}
+
+# agrees NAME NUMBER: asked for the number, the program prints what the reference does.
+agrees() {
+    answers "$1, $2" "$2\n" "$(echo "$2" | python3 "$reference/reference.py" "$folder/archive.csv")"
+}
+
+# refused NAME NUMBER TEXT: the text behind a good line is refused with this number, as line 2,
+# though line 1 shows what is asked for.
+refused() {
+    archive "4,5,3,1,0,16\n$3"
+    answers "$1" '5\n' "refused,$2,2"
+}
+
+# pieces PART..: the parts with pauses between them.
+pieces() {
+    local part
+    for part; do
+        printf '%b' "$part"
+        sleep 0.1
+    done
+}
+
+# fed NAME WANTED PART..: asked for 49, where the archive is a named pipe that gets these pieces.
+fed() {
+    local name=$1 wanted=$2 writer
+    shift 2
+    fresh
+    mkfifo "$folder/archive.csv"
+    pieces "$@" >"$folder/archive.csv" 2>"$work/writer" &
+    writer=$!
+    answers "$name" '49\n' "$wanted"
+    kill "$writer" 2>"$work/writer" # only if nobody read it to the end
+    wait "$writer" 2>"$work/writer"
+}
+
+# The cases.
+
+example='4,5,3,1,0,16\n10,371,995,73,100,8\n'
+
+examples() {
+    archive "$example"
+    answers 'example' '5\n' 1,4
+    answers 'example' '49\n' 2,0
+    answers 'example' '985\n' none
+}
+
+digits() {
+    head -c 100000000 /dev/zero | tr '\0' 7
+}
+
+questions() {
+    archive "$example"
+    answers 'no input' '' question
+    answers 'no byte 10' '5' question
+    answers 'byte 10 alone' '\n' question
+    answers 'two lines' '5\n49\n' question
+    answers 'more behind byte 10' '5\n6' question
+    answers 'a second byte 10' '5\n\n' question
+    answers 'byte 10 first' '\n5\n' question
+    answers 'leading zero' '05\n' question
+    answers 'two zeros' '00\n' question
+    answers 'blank before' ' 5\n' question
+    answers 'blank behind' '5 \n' question
+    answers 'plus sign' '+5\n' question
+    answers 'minus sign' '-5\n' question
+    answers 'byte 13' '5\r\n' question
+    answers 'letters' 'five\n' question
+    answers 'digit and letter' '5x\n' question
+    answers 'comma' '5,4\n' question
+    answers 'byte 0' '5\0000\n' question
+    answers 'byte 181' '\0265\n' question
+    answers 'the byte below 0' '/\n' question
+    answers 'the byte above 9' ':\n' question
+    answers '2^64' '18446744073709551616\n' question
+    answers '20 nines' '99999999999999999999\n' question
+    answers '21 digits' '100000000000000000000\n' question
+    answers '2^64 - 1' '18446744073709551615\n' none
+    answers 'zero' '0\n' 1,9
+    prints 'standard input closed' question <&-
+    prints 'standard input is a folder' question <"$work"
+    digits | prints '100 MB of digits' question
+    { digits; echo; } | prints '100 MB of digits and byte 10' question
+    { echo 5; digits; } | prints '100 MB behind byte 10' question
+}
+
+question_first() {
+    fresh
+    answers 'bad question, missing archive' 'x\n' question
+    mkdir "$folder/archive.csv"
+    answers 'bad question, a folder as archive' 'x\n' question
+    archive 'spoiled'
+    answers 'bad question, refused archive' 'x\n' question
+}
+
+unread() {
+    fresh
+    answers 'missing archive' '5\n' unread
+    mkdir "$folder/archive.csv"
+    answers 'a folder as archive' '5\n' unread
+    fresh
+    ln -s nowhere "$folder/archive.csv"
+    answers 'a link to nothing as archive' '5\n' unread
+    no_permission
+}
+
+# Root may read everything, so the program is then run as nobody, from a copy that nobody reaches.
+no_permission() {
+    local as_user=() program=$program
+    if [ "$(id -u)" -eq 0 ]; then
+        as_user=(setpriv --reuid 65534 --regid 65534 --clear-groups)
+        install -m 755 "$program" "$work/runfind"
+        program=$work/runfind
+    fi
+    archive "$example"
+    chmod 000 "$folder/archive.csv"
+    if "${as_user[@]}" test -x "$program" && ! "${as_user[@]}" test -r "$folder/archive.csv"; then
+        echo 5 | prints 'archive without permission' unread "${as_user[@]}"
+    else
+        echo 'skip archive without permission: no user here may run the program but not read the file'
+    fi
+}
+
+# Lines that make 65,536 bytes; only the last one, 5041, shows 49.
+longest() {
+    repeated 5036 4,5,3,1,0,15
+    repeated 4 4,5,3,1,0,6
+    echo 10,371,995,73,100,8
+}
+
+overlong() {
+    fresh
+    longest >"$folder/archive.csv"
+    agrees "$(wc -c <"$folder/archive.csv") bytes, first line" 5
+    agrees "$(wc -c <"$folder/archive.csv") bytes, last line" 49
+    agrees "$(wc -c <"$folder/archive.csv") bytes" 1023
+    echo >>"$folder/archive.csv"
+    answers "$(wc -c <"$folder/archive.csv") bytes" '5\n' refused,1,0
+    head -c 65536 /dev/zero >"$folder/archive.csv"
+    answers '65536 bytes, all 0' '5\n' refused,2,1
+    head -c 65537 /dev/zero >"$folder/archive.csv"
+    answers '65537 bytes, all 0' '5\n' refused,1,0
+    head -c 65536 /dev/zero | tr '\0' '\n' >"$folder/archive.csv"
+    answers '65536 bytes, all 10' '5\n' refused,2,1
+    if truncate -s 3G "$folder/archive.csv"; then
+        answers '3 GB' '5\n' refused,1,0
+    else
+        echo 'skip 3 GB: no such file can be made here'
+    fi
+}
+
+malformed() {
+    refused 'last line without byte 10' 2 '4,5,3,1,0,16'
+    refused 'one byte behind the last line' 2 '4'
+    refused 'empty line' 2 '\n4,5,3,1,0,16\n'
+    refused 'empty last line' 2 '\n'
+    refused 'byte 13' 2 '4,5,3,1,0,16\r\n'
+    refused 'seven fields' 2 '4,5,3,1,0,16,1\n'
+    refused 'five fields' 2 '4,5,3,1,0\n'
+    refused 'comma at the end' 2 '4,5,3,1,0,16,\n'
+    refused 'comma at the start' 2 ',4,5,3,1,0,16\n'
+    refused 'empty field' 2 '4,5,,1,0,16\n'
+    refused 'blank between fields' 2 '4,5,3, 1,0,16\n'
+    refused 'blank at the end' 2 '4,5,3,1,0,16 \n'
+    refused 'sign' 2 '4,5,3,+1,0,16\n'
+    refused 'quoted field' 2 '4,5,3,"1",0,16\n'
+    refused 'letter' 2 '4,5,3,a,0,16\n'
+    refused 'semicolons' 2 '4;5;3;1;0;16\n'
+    refused 'byte 0' 2 '4,5,3,1,0,16\0000\n'
+    refused 'field of 60,000 digits' 2 "$(head -c 60000 /dev/zero | tr '\0' 1),5,3,1,0,16\n"
+    bad_fields
+}
+
+# Each of the six fields with a zero before it, and too large for 64 bits.
+bad_fields() {
+    local fields=(4 5 3 1 0 16) at bad changed
+    for at in "${!fields[@]}"; do
+        for bad in "0${fields[at]}" 18446744073709551616 100000000000000000000; do
+            changed=("${fields[@]}")
+            changed[at]=$bad
+            refused "field $((at + 1)) is $bad" 2 "$(IFS=,; echo "${changed[*]}")\n"
+        done
+    done
+}
+
+out_of_range() {
+    refused 'width 0' 3 '0,0,0,0,0,16\n'
+    refused 'width 65' 3 '65,5,3,1,0,16\n'
+    refused 'width 2^64 - 1' 3 '18446744073709551615,5,3,1,0,16\n'
+    refused 'multiplier 2^4 at width 4' 4 '4,16,3,1,0,16\n'
+    refused 'increment 2^4 at width 4' 4 '4,5,16,1,0,16\n'
+    refused 'seed 2^4 at width 4' 4 '4,5,3,16,0,16\n'
+    refused 'seed 2^63 at width 63' 4 '63,5,3,9223372036854775808,0,16\n'
+    refused 'count 0' 5 '4,5,3,1,0,0\n'
+    refused 'first 2^64 - 2, count 2' 5 '4,5,3,1,18446744073709551614,2\n'
+    refused 'first 2^64 - 1, count 1' 5 '4,5,3,1,18446744073709551615,1\n'
+    refused 'first 2^64 - 1, count 0' 5 '4,5,3,1,18446744073709551615,0\n'
+    refused 'first 1, count 2^64 - 1' 5 '4,5,3,1,1,18446744073709551615\n'
+}
+
+# accepted NAME LINE POSITION: an archive of this line; the number at the position is looked for.
+accepted() {
+    archive "$2\n"
+    agrees "$1" "$(shown "$2" "$3")"
+}
+
+in_range() {
+    accepted 'width 64' 64,6364136223846793005,1442695040888963407,1,1099511627776,1000 777
+    accepted 'width 64, all as large as can be' \
+        64,18446744073709551615,18446744073709551615,18446744073709551615,0,18446744073709551615 1
+    accepted 'multiplier 15 at width 4' 4,15,0,1,0,2 1
+    accepted 'first 2^64 - 2, count 1' 4,5,3,1,18446744073709551614,1 0
+    accepted 'first 0, count 2^64 - 1' 4,5,3,1,0,18446744073709551615 15
+    accepted 'even multiplier, width 64' 64,18446744073709551614,1,12345678901234567890,3,100 20
+}
+
+# In a line the lowest number counts, among lines the first.
+order() {
+    refused 'line malformed, width 65, count 00' 2 '65,5,3,1,0,00\n'
+    refused 'width 65, count 0' 3 '65,5,3,1,0,0\n'
+    refused 'width 0, operands above it' 3 '0,5,3,1,0,16\n'
+    refused 'seed 2^4 at width 4, count 0' 4 '4,5,3,16,0,0\n'
+    refused 'line 2 is 5, line 3 is 2' 5 '4,5,3,1,0,0\n4,5\n'
+    refused 'line 2 is 4, line 3 is 3' 4 '4,5,3,16,0,1\n0,5,3,1,0,1\n'
+    refused 'line 2 is 3, line 4 is 2' 3 '70,5,3,1,0,1\n4,5,3,1,0,16\n4,5\n'
+    archive '4,5\n4,5,3,1,0,16\n'
+    answers 'bad line 1 of 2' '5\n' refused,2,1
+    archive "$example$example$example"'4,5,3,1,0,0\n'
+    answers 'bad line 7 of 7' '5\n' refused,5,7
+}
+
+searches() {
+    archive ''
+    answers 'an archive of 0 bytes' '0\n' none
+    archive '4,5,3,1,0,16\n4,5,3,1,0,16\n'
+    answers 'equal lines' '5\n' 1,4
+    archive '4,5,3,1,0,16\n4,5,3,1,4,2\n'
+    answers 'an earlier line with a higher position' '5\n' 1,4
+    archive '4,5,3,1,0,4\n4,5,3,1,0,5\n'
+    answers 'line 1 ends one position too early' '5\n' 2,4
+    archive '4,5,3,1,2,16\n'
+    answers 'the position, not the index' '5\n' 1,2
+    answers 'a number from before the run comes round again' '1\n' 1,14
+    archive '4,5,3,1,1000000007,16\n'
+    agrees 'a far run' 5
+    archive '4,5,3,1,0,16\n6,5,3,1,0,64\n'
+    agrees 'a number too wide for line 1' 21
+    agrees 'a number too wide for line 1' 63
+    answers 'a number too wide for both lines' '64\n' none
+}
+
+even_multipliers() {
+    archive '4,2,0,1,0,10\n'
+    answers 'even multiplier, the seed' '1\n' 1,0
+    answers 'even multiplier, before the cycle' '4\n' 1,2
+    answers 'even multiplier, in the cycle' '0\n' 1,4
+    answers 'even multiplier, never shown' '3\n' none
+    archive '4,2,0,1,1,2\n4,2,0,1,1,10\n'
+    answers 'even multiplier, only before the run' '1\n' none
+    answers 'even multiplier, before the cycle, line 2' '8\n' 2,2
+    archive '4,6,1,1,1152921504606846976,9\n'
+    answers 'even multiplier, a run within the cycle' '3\n' 1,0
+    answers 'even multiplier, a run within the cycle' '11\n' none
+}
+
+in_pieces() {
+    archive "$example"
+    pieces 4 9 '\n' | prints 'question in pieces' 2,0
+    pieces 49 '\n' 4 | prints 'question in pieces, more behind it' question
+    pieces 1844674407 3709551615 '\n' | prints 'question of 20 digits in pieces' none
+    fed 'archive in pieces' 2,0 4,5, 3,1,0,16 '\n' 10,371 ',995,73,100,8\n'
+    fed 'archive in pieces, byte 10 missing' refused,2,2 4,5, 3,1,0,16 '\n' 10,371,995,73,100,8
+    fed 'archive in pieces, 0 bytes' none '' ''
+    local bytes
+    bytes=$(longest)
+    fed 'archive in pieces, 65536 bytes' 5041,0 "${bytes:0:20000}" "${bytes:20000:1}" "${bytes:20001}" '\n'
+    fed 'archive in pieces, 65537 bytes' refused,1,0 "${bytes:0:20000}" "${bytes:20000}" '\n' '\n'
+}
+
+examples
+questions
+question_first
+unread
+overlong
+malformed
+out_of_range
+in_range
+order
+searches
+even_multipliers
+in_pieces
+echo "runfind: $compared compared, $failed failed"
+[ "$failed" -eq 0 ]

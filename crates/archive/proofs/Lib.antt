@@ -5,3 +5,4 @@ pub mod Ahead
 pub mod Finding
 pub mod Demands
 pub mod LinePlaces
+mod Examples

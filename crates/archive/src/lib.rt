@@ -58,7 +58,7 @@ pub fn line_part(archive: &[u8], number: u64) -> Part
             length: 0,
         };
     }
-    places::line_place(archive, number)
+    parts::line_place(archive, number)
 }
 
 // The line with that number, as a part of the archive itself.

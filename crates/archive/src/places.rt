@@ -2,7 +2,6 @@
 ghost use mathlib.Core.Path.{_≡_};
 ghost use Rattle.lines.specs.Run.{runRefusal};
 ghost use Rattle.archive.specs.Check.{Readable};
-ghost use Rattle.archive.specs.Line.{PartPromise};
 ghost use Rattle.archive.specs.Lookup.{LookupPromise, replyOf};
 ghost use Rattle.archive.specs.Searching.{PositionIn};
 use crate::LookupAnswer;
@@ -56,34 +55,4 @@ pub fn earliest(archive: &[u8], y: u64) -> LookupAnswer
         number += 1;
     }
     LookupAnswer::Nowhere
-}
-
-// The place of a line.
-pub fn line_place(archive: &[u8], number: u64) -> Part
-    requires { ⌜ Readable (now archive) ⌝ }
-    ensures { λ r. ⌜ PartPromise (now (archive .entry)) number r ⌝ }
-{
-    if number == 0 {
-        return Part {
-            start: 0,
-            length: 0,
-        };
-    }
-    let mut at = 0;
-    let mut left = number;
-    while at < archive.len() {
-        let end = part_end(archive, at);
-        if left == 1 {
-            return Part {
-                start: at,
-                length: end - at,
-            };
-        }
-        at = end;
-        left -= 1;
-    }
-    Part {
-        start: 0,
-        length: 0,
-    }
 }

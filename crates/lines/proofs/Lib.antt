@@ -3,3 +3,4 @@ pub mod Runs
 pub mod Reading
 pub mod RoundTrip
 mod Written
+mod Examples

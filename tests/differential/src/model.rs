@@ -211,7 +211,7 @@ pub fn lookup(archive: &[u8], number: u64) -> LookupReply {
 mod tests {
     use super::*;
 
-    /// The reply to one call of ../reference/vectors.txt, its bytes without their count.
+    /// The reply to one call of the vectors, its bytes without their count.
     fn reply(code: &str, n: &[u64]) -> Vec<u64> {
         let bytes = |from: usize| n[from + 1..].iter().map(|&byte| byte as u8).collect::<Vec<u8>>();
         let g = |n: &[u64]| Generator { width: n[0], multiplier: n[1], increment: n[2], seed: n[3] };
@@ -249,8 +249,8 @@ mod tests {
 
     #[test]
     fn model_agrees_with_the_reference() {
-        let calls = include_str!("../../reference/calls").lines();
-        for (call, expected) in calls.zip(include_str!("../../reference/expected").lines()) {
+        let calls = include_str!("../../../crates/vectors/stdin").lines();
+        for (call, expected) in calls.zip(include_str!("../../../crates/vectors/stdout").lines()) {
             let (code, numbers) = call.split_once(',').unwrap();
             let numbers: Vec<u64> = numbers.split(',').map(|n| n.parse().unwrap()).collect();
             let got: Vec<String> = reply(code, &numbers).iter().map(u64::to_string).collect();

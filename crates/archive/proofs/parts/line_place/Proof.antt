@@ -1,4 +1,4 @@
--- `archive::places::line_place` meets its contract: the loop's invariant is `Walked`.
+-- `archive::parts::line_place` meets its contract: the loop's invariant is `Walked`.
 use borrow.Author.Needs.{needs}
 use Prim.Native.Nat.{_-_}
 use native.Mathlib.Omega.{arith}
@@ -12,8 +12,8 @@ use Rattle.archive.proofs.LinePlaces.{
   walked-next,
   walked-end,
 }
-use Rattle.archive.proofs.places.line_place.Statement.{statement}
-use Rattle.archive.proofs.places.line_place.Tie as tie
+use Rattle.archive.proofs.parts.line_place.Statement.{statement}
+use Rattle.archive.proofs.parts.line_place.Tie as tie
 
 abbrev Inv-loop : tie.InvT-loop
 Inv-loop archive number at₀ left₀ at left = Walked archive number at left

@@ -1,0 +1,63 @@
+-- Small examples of the definitions, computed.
+use mathlib.Core.Path.{_≡_, refl}
+use mathlib.Core.List.{List, [], _∷_, map}
+use Prim.Native.Nat.{ℕ}
+use lib.ListN.{length}
+use Rattle.generator.specs.Least.{least}
+use Rattle.generator.specs.Recurrence.{step, element}
+use Rattle.generator.specs.Refusals.{refusalOf}
+use Rattle.generator.specs.Orbit.{returnOf, preperiodOf, periodOf}
+use Rattle.fields.specs.Digits.{lastDigits, digitsOf}
+use Rattle.fields.specs.Line.{fieldsLine}
+use Rattle.lines.specs.declared.Run.{Run}
+use Rattle.lines.specs.Run.{shows, runRefusal}
+use Rattle.lines.specs.Line.{lineOf}
+use Rattle.lines.specs.Variety.{varietyOf}
+
+abbrev pub run : ℕ → ℕ → ℕ → ℕ → ℕ → ℕ → Run
+run n a c x s l =
+    record { generator = record { width = n; multiplier = a; increment = c; seed = x }; first = s; count = l }
+
+-- 0, 7, 10 and 2^64 - 1 in decimal
+digits :
+    map digitsOf (0 ∷ 7 ∷ 10 ∷ 18446744073709551615 ∷ [])
+    ≡ (48 ∷ [])
+    ∷ (55 ∷ [])
+    ∷ (49 ∷ 48 ∷ [])
+    ∷ (49 ∷ 56 ∷ 52 ∷ 52 ∷ 54 ∷ 55 ∷ 52 ∷ 52 ∷ 48 ∷ 55 ∷ 51 ∷ 55 ∷ 48 ∷ 57 ∷ 53 ∷ 53 ∷ 49 ∷ 54 ∷ 49 ∷ 53 ∷ [])
+    ∷ []
+unfolding digitsOf lastDigits
+digits = refl
+
+-- "4,5,3,1,0,16" and byte 10
+line : lineOf (run 4 5 3 1 0 16) ≡ 52 ∷ 44 ∷ 53 ∷ 44 ∷ 51 ∷ 44 ∷ 49 ∷ 44 ∷ 48 ∷ 44 ∷ 49 ∷ 54 ∷ 10 ∷ []
+unfolding fieldsLine digitsOf lastDigits
+line = refl
+
+-- a longest line: width 64, four numbers of 20 digits, and of first and count one with 19
+longest :
+    length (lineOf (run 64 18446744073709551615 18446744073709551615 18446744073709551615 10000000000000000000 8446744073709551615))
+    ≡ 107
+unfolding fieldsLine digitsOf lastDigits
+longest = refl
+
+-- first + count of 2^64 - 1 is accepted, of 2^64 refused; a count of 0 is refused; 3 and 4 come first
+refusals :
+    map runRefusal
+    (run 4 5 3 1 18446744073709551614 1
+    ∷ run 4 5 3 1 18446744073709551614 2
+    ∷ run 4 5 3 1 0 0
+    ∷ run 65 99 3 1 0 0
+    ∷ run 4 16 3 1 0 0
+    ∷ [])
+    ≡ 0 ∷ 5 ∷ 5 ∷ 3 ∷ 4 ∷ []
+unfolding runRefusal refusalOf
+refusals = refl
+
+shown : map (shows (run 10 371 995 73 100 8)) (0 ∷ 1 ∷ []) ≡ 49 ∷ 742 ∷ []
+unfolding shows element step
+shown = refl
+
+varieties : map varietyOf (run 4 5 3 1 0 10 ∷ run 4 5 3 1 0 20 ∷ run 5 3 0 2 7 9 ∷ []) ≡ 10 ∷ 16 ∷ 4 ∷ []
+unfolding varietyOf periodOf preperiodOf returnOf least element step
+varieties = refl

@@ -16,11 +16,11 @@ use Rattle.generator.specs.declared.Generator.{Generator}
 use Rattle.generator.specs.declared.Refusal.{Refusal}
 use Rattle.generator.specs.Recurrence.{step, element}
 use Rattle.generator.specs.Refusals.{Valid, numberOf}
-use Rattle.generator.specs.Index.{Located, Absent}
+use Rattle.orbits.specs.Index.{Located, Absent}
 use Rattle.generator.specs.Least.{least}
 use Rattle.generator.proofs.Least.{Least, least-least, least-below, least-unique}
 use Rattle.generator.proofs.Replies.{number-nonzero}
-use Rattle.generator.proofs.Elements.{reduced}
+use Rattle.orbits.proofs.Elements.{reduced}
 use Rattle.lines.specs.declared.Run.{Run}
 use Rattle.lines.specs.Run.{shows, runRefusal}
 use Rattle.lines.specs.Line.{lineOf}

@@ -9,10 +9,10 @@ use crate::Part;
 use crate::parts::part_end;
 use generator::Generator;
 use generator::linear;
-use generator::search::Position;
-use generator::search::position_of;
 use lines::Run;
 use lines::RunAnswer;
+use orbits::search::Position;
+use orbits::search::position_of;
 
 // The least position of an accepted run that shows y: the index search from the run's first element on.
 pub fn position_in(run: Run, y: u64) -> Position

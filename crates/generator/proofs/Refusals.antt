@@ -1,25 +1,12 @@
 -- The refusal table by cases: what is known of a generator that is refused or accepted.
-use mathlib.Core.Path.{_≡_, refl, sym, _∙_, ap}
-use mathlib.Core.Bool.{Bool, true, false, not, cond, _||_, true≢false}
-use Prim.Native.Nat.{ℕ, zero, suc, _%_, _^_, _≤_, _<_}
-use native.Mathlib.Nat.{mod-eq-of-lt, mod-lt, lt-of-not-le, lt-of-lt-of-le}
-use native.Mathlib.Decide.{decLe}
+use mathlib.Core.Path.{_≡_, refl}
+use mathlib.Core.Bool.{Bool, true, false, cond, _||_, true≢false}
+use Prim.Native.Nat.{ℕ, zero, suc, _^_}
 use native.Mathlib.Omega.{arith}
 use lib.Dec.{eqb, leb, ltb}
-use lib.Pow.{pow-pos}
-use borrow.Author.Tests.{eq-eqb, ne-eqb, le-leb, lt-leb, le-ltb, lt-ltb, leb-false, eqb-false, ltb-false}
+use borrow.Author.Tests.{leb-false, eqb-false, ltb-false}
 use Rattle.generator.specs.declared.Generator.{Generator}
 use Rattle.generator.specs.Refusals.{refusalOf, orElse, widthRefused, operandRefused, Valid}
-
--- x has bits above the low n exactly when it is 2 ^ n or more
-pub exceeds-test : (n x : ℕ) → not (eqb (x % 2 ^ n) x) ≡ leb (2 ^ n) x
-exceeds-test n x =
-    elim (decLe (2 ^ n) x) [
-      | yes h ↦
-          ap not (ne-eqb (x % 2 ^ n) x (λ e. omega (arith, mod-lt x (pow-pos n)))) ∙ sym (le-leb (2 ^ n) x h)
-      | no f ↦
-          ap not (eq-eqb (x % 2 ^ n) x (mod-eq-of-lt (lt-of-not-le f))) ∙ sym (lt-leb (2 ^ n) x (lt-of-not-le f))
-    ]
 
 -- of a choice that gives 0, the refused case is not taken
 pub cond-none : (b : Bool) (n m : ℕ) → cond b (suc n) m ≡ 0 → (b ≡ false) × (m ≡ 0)

@@ -1,12 +1,9 @@
--- What the contracts of this crate cite. All but `Affine` is what has to be believed of the calls; `Affine`, and `Located`,
--- `Absent` and `PositionIs` at the end of `Index`, are cited only by functions behind them.
+-- What the contracts of this crate cite. All but `Affine` is what has to be believed of the calls; `Affine` is cited only by
+-- functions behind them.
 pub mod Least
 pub mod Recurrence
 pub mod Refusals
 pub mod Replies
-pub mod Orbit
-pub mod Index
 pub mod Predecessor
 pub mod Customary
-pub mod WorkedRuns
 pub mod Affine

@@ -1,22 +1,15 @@
 // The calls on one generator. Any four numbers and any index have their answer.
 ghost use mathlib.Core.Path.{_≡_};
-ghost use Prim.Native.Nat.{_^_, _≤_};
-ghost use lib.Dec.{leb};
 ghost use Rattle.generator.specs.Recurrence as recurrence;
 ghost use Rattle.generator.specs.Refusals.{checkNumber, refusalOf};
 ghost use Rattle.generator.specs.Replies.{valueOf, valueReply};
-ghost use Rattle.generator.specs.Orbit.{OrbitPromise, orbitOf};
-ghost use Rattle.generator.specs.Index.{IndexPromise, replyOf};
 ghost use Rattle.generator.specs.Predecessor.{predecessorRefusal, PredecessorPromise};
 ghost use Rattle.generator.specs.Customary.{CustomaryPromise};
-use search::Position;
-use words::bits::low_bits;
+use words::bits::exceeds;
 
 pub mod customary;
 pub mod linear;
-pub mod periods;
 pub mod refusal_number;
-pub mod search;
 
 pub struct Generator {
     pub width: u64,
@@ -45,25 +38,6 @@ pub enum Check {
 pub enum ValueAnswer {
     Value(u64),
     Refused(Refusal),
-}
-
-pub enum OrbitAnswer {
-    Orbit { preperiod: u64, exponent: u64 },
-    Refused(Refusal),
-}
-
-pub enum IndexAnswer {
-    At(u64),
-    Never,
-    Refused(Refusal),
-}
-
-// Whether x is 2^n or more.
-fn exceeds(x: u64, n: u64) -> bool
-    requires { ⌜ (1 ≤ n) × (n ≤ 64) ⌝ }
-    ensures { λ r. ⌜ r ≡ leb (2 ^ n) x ⌝ }
-{
-    low_bits(x, n) != x
 }
 
 // The conditions that every call on a generator checks first.
@@ -98,41 +72,6 @@ pub fn element(g: Generator, index: u64) -> ValueAnswer
         return ValueAnswer::Refused(refusal);
     }
     ValueAnswer::Value(linear::element_at(g, index))
-}
-
-// The preperiod and the period of a generator.
-pub fn orbit(g: Generator) -> OrbitAnswer
-    ensures { λ r. ⌜ OrbitPromise g (orbitOf r) ⌝ }
-{
-    let verdict = checked(g);
-    if let Check::Refused(refusal) = verdict {
-        return OrbitAnswer::Refused(refusal);
-    }
-    if g.multiplier % 2 == 0 {
-        return OrbitAnswer::Orbit {
-            preperiod: periods::preperiod(g),
-            exponent: 0,
-        };
-    }
-    OrbitAnswer::Orbit {
-        preperiod: 0,
-        exponent: periods::exponent(g),
-    }
-}
-
-// The least index that yields `value`, or never.
-pub fn index(g: Generator, value: u64) -> IndexAnswer
-    ensures { λ r. ⌜ IndexPromise g value (replyOf r) ⌝ }
-{
-    let verdict = checked(g);
-    if let Check::Refused(refusal) = verdict {
-        return IndexAnswer::Refused(refusal);
-    }
-    let position = search::position_of(g, value);
-    match position {
-        Position::At(k) => IndexAnswer::At(k),
-        Position::Never => IndexAnswer::Never,
-    }
 }
 
 // The conditions of the predecessor call.

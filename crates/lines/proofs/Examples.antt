@@ -6,7 +6,7 @@ use lib.ListN.{length}
 use Rattle.generator.specs.Least.{least}
 use Rattle.generator.specs.Recurrence.{step, element}
 use Rattle.generator.specs.Refusals.{refusalOf}
-use Rattle.generator.specs.Orbit.{returnOf, preperiodOf, periodOf}
+use Rattle.orbits.specs.Orbit.{returnOf, preperiodOf, periodOf}
 use Rattle.fields.specs.Digits.{lastDigits, digitsOf}
 use Rattle.fields.specs.Line.{fieldsLine}
 use Rattle.lines.specs.declared.Run.{Run}

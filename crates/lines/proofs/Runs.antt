@@ -12,7 +12,7 @@ use lib.Pow.{pow-mono, pow-lt}
 use borrow.Author.Tests.{eqb-false, leb-false}
 use Rattle.generator.specs.Recurrence.{element}
 use Rattle.generator.specs.Refusals.{Valid, refusalOf}
-use Rattle.generator.specs.Orbit.{periodOf}
+use Rattle.orbits.specs.Orbit.{periodOf}
 use Rattle.generator.proofs.Refusals.{valid, cond-none, or-false, or-else-none}
 use Rattle.fields.specs.Digits.{digitsOf}
 use Rattle.fields.specs.Line.{fieldsLine}

@@ -1,7 +1,7 @@
 -- The variety of a run.
 use Prim.Native.Nat.{ℕ, _^_, min}
 use Rattle.generator.specs.Recurrence.{element}
-use Rattle.generator.specs.Orbit.{periodOf}
+use Rattle.orbits.specs.Orbit.{periodOf}
 use Rattle.lines.specs.declared.Run.{Run}
 
 -- The smaller of the count and the period.

@@ -10,8 +10,8 @@ use generator::Check;
 use generator::Generator;
 use generator::Refusal;
 use generator::ValueAnswer;
-use generator::periods;
 use numbers::Numbers;
+use orbits::periods;
 
 pub mod numbers;
 

@@ -6,12 +6,12 @@ use crate::numbers::Bytes;
 use crate::numbers::read_bytes;
 use crate::replies::Reply;
 use generator::Generator;
-use generator::IndexAnswer;
-use generator::OrbitAnswer;
 use generator::ValueAnswer;
 use generator::refusal_number::number;
 use lines::Run;
 use lines::RunAnswer;
+use orbits::IndexAnswer;
+use orbits::OrbitAnswer;
 
 // The reply to a call. A call with too few or too many numbers is none.
 pub fn reply(letter: u8, n: &[u64]) -> Reply {
@@ -48,7 +48,7 @@ fn index(n: &[u64]) -> Reply {
     if n.len() != 5 {
         return Reply::Unreadable;
     }
-    let answer = generator::index(generator_of(n), n[4]);
+    let answer = orbits::index(generator_of(n), n[4]);
     match answer {
         IndexAnswer::At(i) => Reply::Three(0, 1, i),
         IndexAnswer::Never => Reply::Three(0, 0, 0),
@@ -60,7 +60,7 @@ fn orbit(n: &[u64]) -> Reply {
     if n.len() != 4 {
         return Reply::Unreadable;
     }
-    let answer = generator::orbit(generator_of(n));
+    let answer = orbits::orbit(generator_of(n));
     match answer {
         OrbitAnswer::Orbit {
             preperiod,

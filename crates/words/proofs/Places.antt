@@ -2,15 +2,17 @@
 -- the two numbers differ: a ≡ d + b there, so a and b agree in m places exactly when d is a multiple of 2 ^ m.
 -- And a mask of n ones keeps the low n bits.
 use mathlib.Core.Path.{_≡_, refl, sym, ap, _∙_, subst}
+use mathlib.Core.Bool.{not}
 use Prim.Native.Nat.{ℕ, zero, suc, _+_, _-_, _*_, _/_, _%_, _^_, _≤_, _<_}
-use native.Mathlib.Nat.{mod-one, mod-eq-of-lt, zero-mod, pow-suc, le-trans, lt-of-not-le}
+use native.Mathlib.Nat.{mod-one, mod-lt, mod-eq-of-lt, zero-mod, pow-suc, le-trans, lt-of-not-le}
 use native.Mathlib.Decide.{decLe, ℕ-discrete}
 use native.Mathlib.Omega.{arith}
 use lib.Arith.{mod-mul}
 use lib.Bits.{bitAnd, and-mask}
 use lib.Count.{trailingZeros, under, trailing-le, trailing-of-zero}
-use lib.Dec.{lit<}
+use lib.Dec.{eqb, leb, lit<}
 use lib.Pow.{pow-pos, ones-split, ones-lt, high}
+use borrow.Author.Tests.{eq-eqb, ne-eqb, le-leb, lt-leb}
 use Rattle.words.specs.Alpha.{Alpha, FirstDifference}
 use Rattle.words.proofs.Congruence.{Congruent, same-refl, same-regroup, same-sym, same-trans, same-result, same-add, same-add-cancel, same-lower}
 
@@ -103,3 +105,13 @@ mask-low x n h = ap (bitAnd x) ones ∙ and-mask x n
         ap (λ (j : ℕ). (2 ^ j - 1) / 2 ^ k) (let e : 64 ≡ n + k = omega arith in e)
         ∙ ap (λ (m : ℕ). m / 2 ^ k) (ones-split n k)
         ∙ high (2 ^ n - 1) k (ones-lt k)
+
+-- x has bits above the low n exactly when it is 2 ^ n or more
+pub exceeds-test : (n x : ℕ) → not (eqb (x % 2 ^ n) x) ≡ leb (2 ^ n) x
+exceeds-test n x =
+    elim (decLe (2 ^ n) x) [
+      | yes h ↦
+          ap not (ne-eqb (x % 2 ^ n) x (λ e. omega (arith, mod-lt x (pow-pos n)))) ∙ sym (le-leb (2 ^ n) x h)
+      | no f ↦
+          ap not (eq-eqb (x % 2 ^ n) x (mod-eq-of-lt (lt-of-not-le f))) ∙ sym (lt-leb (2 ^ n) x (lt-of-not-le f))
+    ]

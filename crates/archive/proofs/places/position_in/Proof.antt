@@ -1,7 +1,7 @@
 -- `archive::places::position_in` meets its contract: the index search from the run's first element on.
 use borrow.Author.Needs.{needs}
 use mathlib.Core.Path.{subst}
-use Rattle.generator.specs.Index.{PositionIs}
+use Rattle.orbits.specs.Index.{PositionIs}
 use Rattle.lines.proofs.Runs.{valid-run}
 use Rattle.archive.proofs.Finding.{from-valid, position-none, position-past, position-found}
 use Rattle.archive.proofs.places.position_in.Statement.{statement}

@@ -1,5 +1,7 @@
--- `lines::numbers::read` meets its contract: `readK` says that the first K fields are read, and each way out is one law.
-use mathlib.Core.List.{[], _∷_}
+-- `lines::numbers::read` meets its contract: `readK` says that the first K fields are read, their numbers `numbersK`, and
+-- each way out is one law.
+use mathlib.Core.List.{List, [], _∷_, _++_}
+use Prim.Native.Nat.{ℕ}
 use denote.Ref.{now}
 use Rattle.fields.proofs.Line.{FieldsRead, nothing-read, field-read, line-read, no-field-line, longer-line}
 use borrow.Author.Needs.{needs}
@@ -18,19 +20,49 @@ enum-told c = search needs
 returns : tie.Need-returns
 returns c = no-field-line (nothing-read _) 5 (rw (c .enum-told .given .1) at (c .before .before .read-field .ensures))
 
-read1 : (c : tie.After-known-told) → FieldsRead (now (c .before .before .before .before .before .args .bytes)) (c .before .width .given .0 .0 ∷ []) (c .before .width .given .0 .1 .0)
+abbrev bytes1 : tie.After-known-told → List ℕ
+bytes1 c = now (c .before .before .before .before .before .args .bytes)
+
+abbrev numbers1 : tie.After-known-told → List ℕ
+numbers1 c = c .before .width .given .0 .0 ∷ []
+
+read1 : (c : tie.After-known-told) → FieldsRead (bytes1 c) (numbers1 c) (c .before .width .given .0 .1 .0)
 read1 c = field-read (nothing-read _) (rw (c .before .width .given .1) at (c .before .before .before .read-field .ensures))
 
-read2 : (c : tie.After-known-told2) → FieldsRead (now (c .before .before .before .before .before .before .before .before .before .args .bytes)) (c .before .before .before .before .before .width .given .0 .0 ∷ c .before .multiplier .given .0 .0 ∷ []) (c .before .multiplier .given .0 .1 .0)
+abbrev bytes2 : tie.After-known-told2 → List ℕ
+bytes2 c = bytes1 (c .before .before .before .before)
+
+abbrev numbers2 : tie.After-known-told2 → List ℕ
+numbers2 c = numbers1 (c .before .before .before .before) ++ (c .before .multiplier .given .0 .0 ∷ [])
+
+read2 : (c : tie.After-known-told2) → FieldsRead (bytes2 c) (numbers2 c) (c .before .multiplier .given .0 .1 .0)
 read2 c = field-read (read1 (c .before .before .before .before)) (rw (c .before .multiplier .given .1) at (c .before .before .before .read-field2 .ensures))
 
-read3 : (c : tie.After-known-told3) → FieldsRead (now (c .before .before .before .before .before .before .before .before .before .before .before .before .before .args .bytes)) (c .before .before .before .before .before .before .before .before .before .width .given .0 .0 ∷ c .before .before .before .before .before .multiplier .given .0 .0 ∷ c .before .increment .given .0 .0 ∷ []) (c .before .increment .given .0 .1 .0)
+abbrev bytes3 : tie.After-known-told3 → List ℕ
+bytes3 c = bytes2 (c .before .before .before .before)
+
+abbrev numbers3 : tie.After-known-told3 → List ℕ
+numbers3 c = numbers2 (c .before .before .before .before) ++ (c .before .increment .given .0 .0 ∷ [])
+
+read3 : (c : tie.After-known-told3) → FieldsRead (bytes3 c) (numbers3 c) (c .before .increment .given .0 .1 .0)
 read3 c = field-read (read2 (c .before .before .before .before)) (rw (c .before .increment .given .1) at (c .before .before .before .read-field3 .ensures))
 
-read4 : (c : tie.After-known-told4) → FieldsRead (now (c .before .before .before .before .before .before .before .before .before .before .before .before .before .before .before .before .before .args .bytes)) (c .before .before .before .before .before .before .before .before .before .before .before .before .before .width .given .0 .0 ∷ c .before .before .before .before .before .before .before .before .before .multiplier .given .0 .0 ∷ c .before .before .before .before .before .increment .given .0 .0 ∷ c .before .seed .given .0 .0 ∷ []) (c .before .seed .given .0 .1 .0)
+abbrev bytes4 : tie.After-known-told4 → List ℕ
+bytes4 c = bytes3 (c .before .before .before .before)
+
+abbrev numbers4 : tie.After-known-told4 → List ℕ
+numbers4 c = numbers3 (c .before .before .before .before) ++ (c .before .seed .given .0 .0 ∷ [])
+
+read4 : (c : tie.After-known-told4) → FieldsRead (bytes4 c) (numbers4 c) (c .before .seed .given .0 .1 .0)
 read4 c = field-read (read3 (c .before .before .before .before)) (rw (c .before .seed .given .1) at (c .before .before .before .read-field4 .ensures))
 
-read5 : (c : tie.After-known-told5) → FieldsRead (now (c .before .before .before .before .before .before .before .before .before .before .before .before .before .before .before .before .before .before .before .before .before .args .bytes)) (c .before .before .before .before .before .before .before .before .before .before .before .before .before .before .before .before .before .width .given .0 .0 ∷ c .before .before .before .before .before .before .before .before .before .before .before .before .before .multiplier .given .0 .0 ∷ c .before .before .before .before .before .before .before .before .before .increment .given .0 .0 ∷ c .before .before .before .before .before .seed .given .0 .0 ∷ c .before .first .given .0 .0 ∷ []) (c .before .first .given .0 .1 .0)
+abbrev bytes5 : tie.After-known-told5 → List ℕ
+bytes5 c = bytes4 (c .before .before .before .before)
+
+abbrev numbers5 : tie.After-known-told5 → List ℕ
+numbers5 c = numbers4 (c .before .before .before .before) ++ (c .before .first .given .0 .0 ∷ [])
+
+read5 : (c : tie.After-known-told5) → FieldsRead (bytes5 c) (numbers5 c) (c .before .first .given .0 .1 .0)
 read5 c = field-read (read4 (c .before .before .before .before)) (rw (c .before .first .given .1) at (c .before .before .before .read-field5 .ensures))
 
 read-field-requires-2 : tie.Need-read-field-requires-2

@@ -1,0 +1,195 @@
+-- A linear generator as a sequence: its elements have n places; with an odd multiplier it is isometric, since an odd
+-- factor cancels; with the multiplier 2 ^ v times an odd number each step moves a difference v places up.
+use mathlib.Core.Path.{_≡_, refl, sym, ap, _∙_, subst}
+use mathlib.Core.Logic.{_↔_, Iff·rfl, ⊎-elim, by-cases}
+use Prim.Native.Nat.{ℕ, zero, suc, _+_, _*_, _/_, _%_, _^_, _-_, _≤_, _<_}
+use native.Mathlib.Nat.{add-zero, add-suc, add-comm, mul-comm, mul-assoc, mul-mod-left, mod-lt, le-refl, lt-of-lt-of-le, le-of-mul-le-mul-left, le-of-eq, le-antisymm, div-add-mod'}
+use native.Mathlib.Decide.{ℕ-discrete}
+use native.Mathlib.Omega.{arith}
+use lib.Pow.{pow-add, pow-pos, pow-mono}
+use Rattle.words.specs.Alpha.{Alpha}
+use Rattle.words.proofs.Congruence.{
+  Congruent,
+  from-multiples,
+  to-multiples,
+  same-refl,
+  same-sym,
+  same-trans,
+  same-of-eq,
+  same-regroup,
+  same-mod,
+  same-add,
+  same-scale,
+  same-add-cancel,
+  same-lower,
+  odd-cancel,
+  mod-two,
+  even-half,
+}
+use Rattle.words.proofs.Places.{trailing-alpha}
+use Rattle.sequences.proofs.Agreement.{Agree, Reduced, agree-lower, agree-zero}
+use Rattle.sequences.proofs.Isometric.{Isometric}
+use Rattle.sequences.proofs.Contracting.{Contracting, Scaling, scaling-contracting}
+use Rattle.generator.specs.declared.Generator.{Generator}
+use Rattle.generator.specs.Recurrence.{step, element}
+use Rattle.generator.specs.Refusals.{Valid}
+use Rattle.generator.specs.Affine.{iterate}
+use Rattle.generator.proofs.Walking.{same-affine}
+
+pub reduced : {g : Generator} → Valid g → Reduced (g .width) (element g)
+unfolding element step
+reduced {g} v = record { below = below }
+  where
+    below : (i : ℕ) → element g i < 2 ^ g .width
+    below zero = v .seed-below
+    below (suc i) = mod-lt _ (pow-pos (g .width))
+
+-- a step, before its low bits are kept, agrees with the next element in all n places
+next-place : (g : Generator) (m i : ℕ) → m ≤ g .width →
+    Congruent (2 ^ m) (element g (suc i)) (g .multiplier * element g i + g .increment)
+unfolding element step
+next-place g m i l = same-lower m l (same-mod (2 ^ g .width) _)
+
+-- j steps from element k, not reduced, agree with element k + j
+pub iterate-element : (g : Generator) (k j : ℕ) →
+    Agree (g .width) (iterate (g .multiplier) (g .increment) j (element g k)) (element g (k + j))
+unfolding iterate element
+iterate-element g k j = record { places = go j }
+  where
+    go : (j : ℕ) →
+        Congruent (2 ^ g .width) (iterate (g .multiplier) (g .increment) j (element g k)) (element g (k + j))
+    go zero = same-of-eq _ (ap (element g) (sym (add-zero k)))
+    go (suc j) =
+        same-trans (same-affine (g .multiplier) (g .increment) (go j))
+        (same-trans (same-sym (next-place g (g .width) (k + j) (omega arith))) (same-of-eq _ (ap (element g) (sym (add-suc k j)))))
+
+-- between the elements' congruence and that of the next ones stands that of the products
+module _ (g : Generator) (m i j : ℕ) (l : m ≤ g .width) where
+  products : Congruent (2 ^ m) (element g (suc i)) (element g (suc j)) ↔
+      Congruent (2 ^ m) (g .multiplier * element g i) (g .multiplier * element g j)
+  products = (
+    λ h.
+        same-add-cancel (same-trans (same-sym (next-place g m i l)) (same-trans h (next-place g m j l)))
+        (same-refl _ (g .increment)),
+    λ h.
+        same-trans (next-place g m i l)
+        (same-trans (same-add h (same-refl _ (g .increment))) (same-sym (next-place g m j l))),
+  )
+
+pub isometric : (g : Generator) → g .multiplier % 2 ≡ 1 → Isometric (g .width) (element g)
+isometric g odd =
+    record {
+      step =
+          λ m i j l. (
+            λ h. record { places = products g m i j l .1 (same-scale (g .multiplier) (h .places)) },
+            λ h. record { places = odd-cancel (g .multiplier) odd m (products g m i j l .0 (h .places)) },
+          );
+    }
+
+-- a factor d on both sides, and in the modulus
+times-cancel : {d u w : ℕ} → 0 < d → d * u ≡ d * w → u ≡ w
+times-cancel {d} {u} {w} h e =
+    le-antisymm (le-of-mul-le-mul-left {k = d} (le-of-eq e) h) (le-of-mul-le-mul-left {k = d} (le-of-eq (sym e)) h)
+
+same-times : (d : ℕ) → 0 < d → (m u w : ℕ) → Congruent m u w ↔ Congruent (d * m) (d * u) (d * w)
+same-times d h m u w = (up, down)
+  where
+    up : Congruent m u w → Congruent (d * m) (d * u) (d * w)
+    up c = from-multiples (w / m) (u / m) (omega (arith, ap (λ (t : ℕ). d * t) (to-multiples c)))
+
+    down : Congruent (d * m) (d * u) (d * w) → Congruent m u w
+    down c =
+        let p = d * w / (d * m) in
+        let q = d * u / (d * m) in
+        let e : d * (u + p * m) ≡ d * (w + q * m) = omega (arith, to-multiples c) in from-multiples p q (times-cancel h e)
+
+-- an even multiplier other than 0 is 2 ^ v times an odd number
+record Split (a v : ℕ) : Type 0 where
+  odd-part : ℕ
+  odd : odd-part % 2 ≡ 1
+  product : a ≡ 2 ^ v * odd-part
+
+split : {a v : ℕ} → Alpha a v → (a ≡ 0 → ⊥) → Split a v
+split {a} {v} α nonzero =
+    record { odd-part = o; odd = ⊎-elim (λ e. absurd (even e)) (λ e. e) (mod-two o); product = whole }
+  where
+    o : ℕ
+    o = a / 2 ^ v
+
+    whole : a ≡ 2 ^ v * o
+    whole = omega (arith, div-add-mod' a (2 ^ v), α .multiple)
+
+    even : o % 2 ≡ 0 → ⊥
+    even e =
+        let p : 2 ^ suc v ≡ 2 ^ v + 2 ^ v = omega arith in
+        let t : a ≡ o / 2 * 2 ^ suc v = whole ∙ mul-comm (2 ^ v) o ∙ sym (even-half o (2 ^ v) e) ∙ rw p refl in
+        α .exact nonzero (ap (λ (k : ℕ). k % 2 ^ suc v) t ∙ mul-mod-left (o / 2) (2 ^ suc v))
+
+-- products with a agree in v places more than the factors, and in no others
+module _ {a v : ℕ} (s : Split a v) (m u w : ℕ) where
+  split-places : Congruent (2 ^ m) u w ↔ Congruent (2 ^ (m + v)) (a * u) (a * w)
+  split-places = (
+    λ h. regroup .0 (same-times (2 ^ v) (pow-pos v) (2 ^ m) (o * u) (o * w) .0 (same-scale o h)),
+    λ h. odd-cancel o (s .odd) m (same-times (2 ^ v) (pow-pos v) (2 ^ m) (o * u) (o * w) .1 (regroup .1 h)),
+  )
+    where
+      o : ℕ
+      o = s .odd-part
+
+      modulus : 2 ^ v * 2 ^ m ≡ 2 ^ (m + v)
+      modulus = sym (pow-add 2 v m) ∙ ap (λ (k : ℕ). 2 ^ k) (add-comm v m)
+
+      factor : (t : ℕ) → 2 ^ v * (o * t) ≡ a * t
+      factor t = sym (mul-assoc (2 ^ v) o t) ∙ ap (λ (k : ℕ). k * t) (sym (s .product))
+
+      regroup : Congruent (2 ^ v * 2 ^ m) (2 ^ v * (o * u)) (2 ^ v * (o * w)) ↔ Congruent (2 ^ (m + v)) (a * u) (a * w)
+      regroup = rw (modulus, factor u, factor w) Iff·rfl
+
+-- the multiplier 0: all elements but the first are equal
+zero-places : {a : ℕ} → a ≡ 0 → (m u w : ℕ) → Congruent (2 ^ m) (a * u) (a * w)
+zero-places {a} e m u w = same-of-eq _ (rw e (omega arith))
+
+pub scaling : {g : Generator} {v : ℕ} → Valid g → g .multiplier % 2 ≡ 0 → Alpha (g .multiplier) v → Scaling (g .width) v (element g)
+scaling {g} {v} valid even α = by-cases (ℕ-discrete (g .multiplier) 0) none some
+  where
+    a : ℕ
+    a = g .multiplier
+
+    none : a ≡ 0 → Scaling (g .width) v (element g)
+    none e =
+        record {
+          positive = omega (arith, α .at-zero e);
+          exact =
+              λ m i j l. (
+                λ h. record { places = products g (m + v) i j l .1 (zero-places e (m + v) _ _) },
+                λ h. agree-lower m (omega (arith, α .at-zero e, valid .width-high)) (agree-zero _ _),
+              );
+          full = λ m i j l h. record { places = products g (g .width) i j (le-refl _) .1 (zero-places e (g .width) _ _) };
+        }
+
+    some : (a ≡ 0 → ⊥) → Scaling (g .width) v (element g)
+    some nonzero =
+        record {
+          positive = positive v α;
+          exact =
+              λ m i j l. (
+                λ h. record { places = products g (m + v) i j l .1 (split-places s m _ _ .0 (h .places)) },
+                λ h. record { places = split-places s m _ _ .1 (products g (m + v) i j l .0 (h .places)) },
+              );
+          full =
+              λ m i j l h.
+              record { places = products g (g .width) i j (le-refl _) .1 (same-lower (g .width) l (split-places s m _ _ .0 (h .places))) };
+        }
+      where
+        s : Split a v
+        s = split α nonzero
+
+        positive : (v : ℕ) → Alpha a v → 1 ≤ v
+        positive zero β = absurd (β .exact nonzero even)
+        positive (suc v) β = omega arith
+
+-- so an even multiplier contracts
+pub contracting : {g : Generator} → Valid g → g .multiplier % 2 ≡ 0 → Contracting (g .width) (element g)
+contracting {g} v even =
+    scaling-contracting
+    (scaling v even (trailing-alpha (g .multiplier) (lt-of-lt-of-le (v .multiplier-below) (pow-mono (v .width-high)))))

@@ -1,0 +1,6 @@
+-- `Elements` and `WorkedRuns` are for the crates above too.
+pub mod Elements
+pub mod Places
+pub mod Orbits
+pub mod Indices
+pub mod WorkedRuns

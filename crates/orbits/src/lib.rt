@@ -1,0 +1,57 @@
+// The orbit of a generator and the least index of a number, for every generator, without stepping.
+ghost use Rattle.orbits.specs.Orbit.{OrbitPromise, orbitOf};
+ghost use Rattle.orbits.specs.Index.{IndexPromise, replyOf};
+use generator::Check;
+use generator::Generator;
+use generator::Refusal;
+use generator::checked;
+use search::Position;
+
+pub mod periods;
+pub mod search;
+
+pub enum OrbitAnswer {
+    Orbit { preperiod: u64, exponent: u64 },
+    Refused(Refusal),
+}
+
+pub enum IndexAnswer {
+    At(u64),
+    Never,
+    Refused(Refusal),
+}
+
+// The preperiod and the period of a generator.
+pub fn orbit(g: Generator) -> OrbitAnswer
+    ensures { λ r. ⌜ OrbitPromise g (orbitOf r) ⌝ }
+{
+    let verdict = checked(g);
+    if let Check::Refused(refusal) = verdict {
+        return OrbitAnswer::Refused(refusal);
+    }
+    if g.multiplier % 2 == 0 {
+        return OrbitAnswer::Orbit {
+            preperiod: periods::preperiod(g),
+            exponent: 0,
+        };
+    }
+    OrbitAnswer::Orbit {
+        preperiod: 0,
+        exponent: periods::exponent(g),
+    }
+}
+
+// The least index that yields `value`, or never.
+pub fn index(g: Generator, value: u64) -> IndexAnswer
+    ensures { λ r. ⌜ IndexPromise g value (replyOf r) ⌝ }
+{
+    let verdict = checked(g);
+    if let Check::Refused(refusal) = verdict {
+        return IndexAnswer::Refused(refusal);
+    }
+    let position = search::position_of(g, value);
+    match position {
+        Position::At(k) => IndexAnswer::At(k),
+        Position::Never => IndexAnswer::Never,
+    }
+}

@@ -128,6 +128,25 @@ digits-length =
     longer v d p h most zero b = absurd (omega arith)
     longer v d p h most (suc k) b = simp length-append (omega (arith, most k (omega arith)))
 
+-- the number of digits, one or four at a time
+pub length-one : (v : ℕ) → v < 10 → length (digitsOf v) ≡ 1
+length-one v h = ap length (digits-one v h)
+
+pub length-more : (v : ℕ) → 9 < v → length (digitsOf v) ≡ suc (length (digitsOf (v / 10)))
+length-more v h = omega (arith, simp length-append at (ap length (digits-last v h)))
+
+pub length-four : (v : ℕ) → 9999 < v → length (digitsOf v) ≡ 4 + length (digitsOf (v / 10000))
+length-four v h =
+    let e : v / 10 / 10 / 10 / 10 ≡ v / 10000 = omega arith in
+    omega (
+      arith,
+      length-more v (omega arith),
+      length-more (v / 10) (omega arith),
+      length-more (v / 10 / 10) (omega arith),
+      length-more (v / 10 / 10 / 10) (omega arith),
+      ap (λ (u : ℕ). length (digitsOf u)) e,
+    )
+
 -- Reading digits.
 
 abbrev isDigit : ℕ → Bool
@@ -200,47 +219,3 @@ field-unique {m = m} {n = n} {xs} {ys} stops stops' e =
 pub digits-prefix : (u v : ℕ) (xs ys : List ℕ) → Stops ys → digitsOf u ++ xs ≡ digitsOf v ++ ys → u ≤ v
 digits-prefix u v xs ys stops e =
     omega (arith, scan-grows u xs, ap (λ (p : ℕ × List ℕ). p .0) (scan-field u v xs ys stops e))
-
--- Values. Each list of digits without a leading zero is that of one number, and each number has one.
-
--- the number that digits make
-pub valueOf : List ℕ → ℕ
-valueOf ds = scan 0 ds .0
-
-pub value-digits : (v : ℕ) → valueOf (digitsOf v) ≡ v
-unfolding valueOf
-value-digits v =
-    ap (λ (p : ℕ × List ℕ). p .0) (ap (scan 0) (sym (append-nil (digitsOf v))) ∙ scan-digits v [] ∙ scan-stop v [] tt)
-
-pub digits-injective : {u v : ℕ} → digitsOf u ≡ digitsOf v → u ≡ v
-digits-injective {u} {v} e = sym (value-digits u) ∙ ap valueOf e ∙ value-digits v
-
-digits-on : (v : ℕ) (ds : List ℕ) → 0 < v → AllDigits ds → digitsOf v ++ ds ≡ digitsOf (scan v ds .0)
-unfolding scan
-digits-on v [] p all = append-nil (digitsOf v)
-digits-on v (b ∷ ds) p all =
-    let h = all b (List·Memᴰ·head refl) in
-    let e : b ≡ 48 + (b - 48) = omega arith in
-    digit-next v (b - 48) b ds p (omega arith) e
-    ∙ digits-on (v * 10 + (b - 48)) ds (omega arith) (λ c m. all c (List·Memᴰ·tail m))
-    ∙ ap (λ (s : ℕ × List ℕ). digitsOf (s .0)) (sym (scan-digit v (b - 48) b ds (omega arith) e))
-
-pub digits-canonical : (b : ℕ) (ds : List ℕ) → AllDigits (b ∷ ds) → (b ≡ 48 → ds ≡ []) → b ∷ ds ≡ digitsOf (valueOf (b ∷ ds))
-unfolding valueOf
-digits-canonical b ds all zero-alone =
-    digit-first (b - 48) b ds (omega (arith, h)) e ∙ others ∙ ap (λ (s : ℕ × List ℕ). digitsOf (s .0)) (sym first)
-  where
-    h : (48 ≤ b) × (b ≤ 57)
-    h = all b (List·Memᴰ·head refl)
-
-    e : b ≡ 48 + (b - 48)
-    e = omega (arith, h)
-
-    first : scan 0 (b ∷ ds) ≡ scan (b - 48) ds
-    first = scan-digit 0 (b - 48) b ds (omega (arith, h)) e ∙ ap (λ (v : ℕ). scan v ds) (omega arith)
-
-    others : digitsOf (b - 48) ++ ds ≡ digitsOf (scan (b - 48) ds .0)
-    others =
-        by-cases (decLt 48 b)
-        (λ more. digits-on (b - 48) ds (omega arith) (λ c m. all c (List·Memᴰ·tail m)))
-        (λ alone. rw (zero-alone (omega (arith, h)), scan-stop (b - 48) [] tt) (append-nil (digitsOf (b - 48))))

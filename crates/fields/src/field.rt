@@ -86,17 +86,34 @@ fn appended(v: u64, d: u64) -> u64
     tens + d
 }
 
-// How many digits the number has.
+// How many digits the number has, counted four at a time.
 pub fn field_length(v: u64) -> usize
     ensures { λ r. ⌜ (r ≡ length (digitsOf v)) × (r ≤ 20) ⌝ }
 {
-    let mut n = 1;
+    let mut n = 0;
     let mut rest = v;
-    while rest > 9 {
-        rest /= 10;
-        n += 1;
+    while rest > 9999 {
+        rest /= 10000;
+        n += 4;
     }
-    n
+    n + short_length(rest)
+}
+
+// How many digits a number below 10000 has.
+fn short_length(v: u64) -> usize
+    requires { ⌜ v < 10000 ⌝ }
+    ensures { λ r. ⌜ r ≡ length (digitsOf v) ⌝ }
+{
+    if v < 10 {
+        return 1;
+    }
+    if v < 100 {
+        return 2;
+    }
+    if v < 1000 {
+        return 3;
+    }
+    4
 }
 
 // Writes the field of `v` at `at`, with its mark, and answers the place behind the mark.

@@ -81,9 +81,6 @@ line-short {run} v =
     w : Words run
     w = valid-words v
 
-    total : run .first + run .count < 2 ^ 64
-    total = v .end
-
     short : (i j : ℕ) → run .first < 10 ^ suc i → run .count < 10 ^ suc j → i + j ≤ 37 → length (lineOf run) ≤ 107
     short i j p q k =
         omega (

@@ -48,9 +48,6 @@ module _ {n : ℕ} {x : ℕ → ℕ} (con : Contracting n x) (red : Reduced n x)
   pub next-equal : (i j : ℕ) → x i ≡ x j → x (suc i) ≡ x (suc j)
   next-equal i j e = reduced-eq red (suc i) (suc j) (keeps-once con n i j (le-refl n) (agree-of-eq n e))
 
-  pub later-equal : (k i j : ℕ) → x i ≡ x j → x (k + i) ≡ x (k + j)
-  later-equal k i j e = reduced-eq red (k + i) (k + j) (keeps con n k i j (le-refl n) (agree-of-eq n e))
-
   -- once x rests it stays
   pub rest-on : (t : ℕ) → x (suc t) ≡ x t → (k : ℕ) → x (t + k) ≡ x t
   rest-on t r zero = ap x (omega arith)

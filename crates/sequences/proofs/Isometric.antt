@@ -64,14 +64,10 @@ exponent-step x m = either (eqb (x (2 ^ exponent x m) % 2 ^ suc m) (x 0 % 2 ^ su
     either true e = omega arith
     either false e = omega arith
 
--- so it is at most m, and monotone
+-- so it is at most m
 pub exponent-le : (x : ℕ → ℕ) (m : ℕ) → exponent x m ≤ m
 exponent-le x zero = unfold exponent in le-refl 0
 exponent-le x (suc m) = omega (arith, exponent-step x m, exponent-le x m)
-
-pub exponent-mono : (x : ℕ → ℕ) {m n : ℕ} → m ≤ n → exponent x m ≤ exponent x n
-exponent-mono x {m} {n} l =
-    le-ind (λ (k : ℕ). exponent x m ≤ exponent x k) (le-refl (exponent x m)) (λ k h e. omega (arith, exponent-step x k)) n l
 
 module _ {n : ℕ} {x : ℕ → ℕ} (iso : Isometric n x) where
   -- what happens q steps after 0 happens q steps after any k
@@ -157,23 +153,3 @@ module _ {n : ℕ} {x : ℕ → ℕ} (iso : Isometric n x) (red : Reduced n x) w
 
   pub returns-first : (i d : ℕ) → 1 ≤ d → x (i + d) ≡ x i → 2 ^ exponent x n ≤ d
   returns-first i d l e = agree-gap (equal-elements (i + d) i .0 e) l
-
--- from any index s on x is isometric too, with the same exponents
-pub tail-isometric : {n : ℕ} {x : ℕ → ℕ} → Isometric n x → (s : ℕ) → Isometric n (λ i. x (s + i))
-tail-isometric iso s =
-    record { step = λ m i j l. rw (add-suc s i, add-suc s j) (iso .step m (s + i) (s + j) l) }
-
-pub tail-exponent : {n : ℕ} {x : ℕ → ℕ} → Isometric n x → (s m : ℕ) → m ≤ n →
-    exponent (λ i. x (s + i)) m ≡ exponent x m
-tail-exponent iso s zero l = unfold exponent in refl
-tail-exponent {x = x} iso s (suc m) l =
-    let before : exponent (λ i. x (s + i)) m ≡ e = tail-exponent iso s m (le-of-lt l) in
-    by-cases (agree-dec (suc m) (x (2 ^ e)) (x 0))
-    (λ h. stays (λ i. x (s + i)) before (moved .0 h) ∙ sym (stays x refl h))
-    (λ d. doubles (λ i. x (s + i)) before (λ h. d (moved .1 h)) ∙ sym (doubles x refl d))
-  where
-    e : ℕ
-    e = exponent x m
-
-    moved : Agree (suc m) (x (2 ^ e)) (x 0) ↔ Agree (suc m) (x (s + 2 ^ e)) (x (s + 0))
-    moved = shift iso (suc m) s (2 ^ e) 0 l

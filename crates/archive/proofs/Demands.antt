@@ -1,15 +1,13 @@
 -- The lookup's definition meets demand 3: by induction over the runs, the place it gives shows the number and every other
 -- place that shows it comes later, or no place shows it.
-use mathlib.Core.Path.{_≡_, refl, sym, ap, _∙_, subst}
-use mathlib.Core.Bool.{true, false}
+use mathlib.Core.Path.{_≡_, refl, ap, _∙_, subst}
 use mathlib.Core.Logic.{_⊎_, inl, inr, ⊎-elim, by-cases}
 use mathlib.Core.List.{List, [], _∷_}
 use Prim.Native.Nat.{ℕ, zero, suc, _+_, _≤_, _<_}
-use native.Mathlib.Nat.{add-zero, add-suc, suc-add, zero-add}
 use native.Mathlib.Decide.{decLt}
 use native.Mathlib.Omega.{arith}
 use lib.Dec.{eqb}
-use borrow.Author.Tests.{eq-eqb, ne-eqb, eqb-true, lt-ltb, le-ltb}
+use borrow.Author.Tests.{eq-eqb, ne-eqb, eqb-true}
 use Rattle.generator.specs.declared.Refusal.{Refusal}
 use Rattle.generator.specs.Refusals.{numberOf}
 use Rattle.generator.proofs.Least.{Least, least-least, least-below}
@@ -26,7 +24,6 @@ use Rattle.archive.specs.Lookup.{
   foundAt,
   foundNone,
   lookupOf,
-  noRun,
   Shows,
   Later,
   Demand3,

@@ -2,14 +2,12 @@
 use mathlib.Core.Path.{_≡_, refl}
 use mathlib.Core.List.{List, [], _∷_, _++_, map}
 use Prim.Native.Nat.{ℕ}
-use lib.ListN.{length}
 use Rattle.generator.specs.Least.{least}
 use Rattle.generator.specs.Recurrence.{step, element}
 use Rattle.fields.specs.Digits.{lastDigits, digitsOf}
 use Rattle.fields.specs.Line.{fieldsLine}
 use Rattle.lines.specs.declared.Run.{Run}
 use Rattle.lines.specs.Run.{shows}
-use Rattle.lines.specs.Line.{lineOf}
 use Rattle.archive.specs.Archive.{archiveOf, numbered}
 use Rattle.archive.specs.Check.{firstPart}
 use Rattle.archive.specs.Line.{lineAt, startOf}

@@ -1,44 +1,34 @@
 -- The lookup. The search in one run is the index search from its first element on. In the archive the runs are tried one
 -- after the other: what is left of them decides the answer. And the answer meets demand 3.
-use mathlib.Core.Path.{_≡_, refl, sym, ap, ap₂, _∙_, subst}
-use mathlib.Core.Bool.{true, false}
-use mathlib.Core.Logic.{_⊎_, inl, inr, ⊎-elim, by-cases}
-use mathlib.Core.List.{List, [], _∷_, _++_}
-use Prim.Native.Nat.{ℕ, zero, suc, _+_, _-_, _*_, _%_, _^_, _≤_, _<_}
+use mathlib.Core.Path.{_≡_, refl, sym, ap, _∙_, subst}
+use mathlib.Core.List.{List, _∷_}
+use Prim.Native.Nat.{ℕ, zero, suc, _+_, _-_, _≤_, _<_}
 use native.Mathlib.Nat.{add-zero, add-suc, le-refl, le-of-lt}
-use native.Mathlib.Decide.{decLt}
 use native.Mathlib.Numerals.{add-one}
 use native.Mathlib.Omega.{arith}
-use lib.ListN.{length, take, drop, length-append, length-drop, drop-of-length-le}
-use lib.Seq.{drop-drop, drop-append-seam}
-use borrow.Author.Tests.{eq-eqb, ne-eqb, eqb-true, eqb-false, lt-ltb, le-ltb}
+use lib.ListN.{length, take, drop, drop-of-length-le}
+use borrow.Author.Tests.{eq-eqb, ne-eqb, lt-ltb, le-ltb}
 use Rattle.generator.specs.declared.Generator.{Generator}
 use Rattle.generator.specs.declared.Refusal.{Refusal}
 use Rattle.generator.specs.Recurrence.{step, element}
 use Rattle.generator.specs.Refusals.{Valid, numberOf}
 use Rattle.orbits.specs.Index.{Located, Absent}
-use Rattle.generator.specs.Least.{least}
-use Rattle.generator.proofs.Least.{Least, least-least, least-below, least-unique}
+use Rattle.generator.proofs.Least.{least-unique}
 use Rattle.generator.proofs.Replies.{number-nonzero}
 use Rattle.orbits.proofs.Elements.{reduced}
 use Rattle.lines.specs.declared.Run.{Run}
-use Rattle.lines.specs.Run.{shows, runRefusal}
+use Rattle.lines.specs.Run.{shows}
 use Rattle.lines.specs.Line.{lineOf}
 use Rattle.lines.specs.ReadLine.{RunReply, ReadPromise, acceptedRun, refusedRun, runReply}
 use Rattle.lines.proofs.Runs.{valid-run, valid-words}
 use Rattle.lines.proofs.Reading.{line-run}
-use Rattle.archive.specs.Archive.{archiveOf, AllAccepted, IsArchive, numbered}
+use Rattle.archive.specs.Archive.{archiveOf, AllAccepted, IsArchive}
 use Rattle.archive.specs.Check.{firstPart, Readable}
 use Rattle.archive.specs.Lookup.{
   positionOf,
-  LookupReply,
   foundAt,
   foundNone,
   lookupOf,
-  noRun,
-  Shows,
-  Later,
-  Demand3,
 }
 use Rattle.archive.proofs.Splitting.{unique-runs}
 use Rattle.archive.proofs.Ahead.{Ahead, ahead, none-ahead}

@@ -1,9 +1,8 @@
 -- The check of an archive: what its loop holds, and what it concludes where a part is refused and where all are read.
 -- Since the bytes fall into lines in one way only, what the loop passed is what any account of the bytes passes.
-use mathlib.Core.Path.{_≡_, refl, sym, ap, ap₂, _∙_, subst}
+use mathlib.Core.Path.{_≡_, refl, sym, ap, _∙_, subst}
 use mathlib.Core.List.{List, [], _∷_, _++_, append-assoc, append-nil}
-use Prim.Native.Nat.{ℕ, zero, suc, _+_, _-_, _≤_, _<_}
-use native.Mathlib.Numerals.{add-one}
+use Prim.Native.Nat.{ℕ, suc, _+_, _-_, _≤_, _<_}
 use native.Mathlib.Omega.{arith}
 use lib.ListN.{length, take, drop, length-append, length-drop, drop-of-length-le}
 use lib.Seq.{drop-drop}
@@ -11,9 +10,8 @@ use Rattle.generator.specs.declared.Refusal.{Refusal}
 use Rattle.generator.specs.Refusals.{numberOf}
 use Rattle.generator.proofs.Replies.{number-nonzero}
 use Rattle.lines.specs.declared.Run.{Run}
-use Rattle.lines.specs.Run.{runRefusal}
 use Rattle.lines.specs.Line.{lineOf}
-use Rattle.lines.specs.ReadLine.{RunReply, ReadPromise, acceptedRun, refusedRun}
+use Rattle.lines.specs.ReadLine.{ReadPromise, acceptedRun, refusedRun}
 use Rattle.lines.proofs.Reading.{read-run, read-same}
 use Rattle.archive.specs.declared.ArchiveCheck.{ArchiveCheck}
 use Rattle.archive.specs.Archive.{archiveOf, AllAccepted, IsArchive}

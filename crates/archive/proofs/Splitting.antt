@@ -4,8 +4,8 @@
 use mathlib.Core.Path.{_≡_, refl, sym, ap, ap₂, _∙_}
 use mathlib.Core.Logic.{by-cases}
 use mathlib.Core.List.{List, [], _∷_, _++_, append-assoc, append-nil}
-use mathlib.Core.List.{List·Memᴰ, List·Memᴰ·head, List·Memᴰ·tail}
-use Prim.Native.Nat.{ℕ, zero, suc, _+_, _≤_, _<_}
+use mathlib.Core.List.{List·Memᴰ·head, List·Memᴰ·tail}
+use Prim.Native.Nat.{ℕ, suc, _+_, _≤_, _<_}
 use native.Mathlib.Decide.{ℕ-discrete}
 use native.Mathlib.Numerals.{add-one}
 use native.Mathlib.Omega.{arith}
@@ -18,7 +18,7 @@ use Rattle.fields.proofs.Digits.{AllDigits, digits-bytes}
 use Rattle.lines.specs.declared.Run.{Run}
 use Rattle.lines.specs.Run.{runRefusal}
 use Rattle.lines.specs.Line.{lineOf}
-use Rattle.lines.specs.ReadLine.{RunReply, ReadPromise, IsLine, runReply}
+use Rattle.lines.specs.ReadLine.{RunReply, ReadPromise, runReply}
 use Rattle.lines.proofs.Runs.{valid-run, valid-words}
 use Rattle.lines.proofs.Reading.{line-run}
 use Rattle.archive.specs.Archive.{archiveOf, AllAccepted, IsArchive}

@@ -1,6 +1,6 @@
 -- Small examples of the definitions, computed.
 use mathlib.Core.Path.{_≡_, refl}
-use mathlib.Core.List.{List, [], _∷_, map}
+use mathlib.Core.List.{[], _∷_, map}
 use Prim.Native.Nat.{ℕ}
 use Rattle.generator.specs.declared.Generator.{Generator}
 use Rattle.generator.specs.Least.{least}

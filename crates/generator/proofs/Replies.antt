@@ -1,6 +1,6 @@
 -- What an answer says, where a check accepts and where it refuses.
-use mathlib.Core.Path.{_≡_, refl, sym, ap, _∙_, subst}
-use Prim.Native.Nat.{ℕ, zero, suc}
+use mathlib.Core.Path.{_≡_, refl, sym, ap, _∙_}
+use Prim.Native.Nat.{ℕ, suc}
 use native.Mathlib.Omega.{arith}
 use Rattle.generator.specs.declared.Refusal.{Refusal}
 use Rattle.generator.specs.declared.Refusal.the-variants.{
@@ -17,7 +17,7 @@ use Rattle.generator.specs.declared.Check.{Check}
 use Rattle.generator.specs.declared.Check.the-variants as verdict
 use Rattle.generator.specs.declared.ValueAnswer.the-variants as answer
 use Rattle.generator.specs.Refusals.{numberOf, checkNumber, orElse}
-use Rattle.generator.specs.Replies.{ValueReply, valueReply, valueOf}
+use Rattle.generator.specs.Replies.{valueReply, valueOf}
 
 -- the number of a check that accepted, and of one that refused
 pub number-accepted : {r : Check} {n : ℕ} → checkNumber r ≡ n → r ≡ verdict.Accepted → n ≡ 0

@@ -1,13 +1,13 @@
 -- One step is undone by an odd multiplier's inverse, and since an odd factor cancels nothing else steps to the same number.
-use mathlib.Core.Path.{_≡_, refl, sym, ap, _∙_}
+use mathlib.Core.Path.{_≡_, sym, _∙_}
 use mathlib.Core.Bool.{cond, false}
-use Prim.Native.Nat.{ℕ, zero, suc, _+_, _*_, _%_, _^_, _≤_, _<_}
+use Prim.Native.Nat.{ℕ, _+_, _*_, _%_, _^_, _<_}
 use native.Mathlib.Nat.{mod-eq-of-lt, mod-lt, le-of-lt, lt-of-lt-of-le}
 use native.Mathlib.Omega.{arith}
 use lib.Dec.{eqb, leb}
 use lib.Pow.{pow-pos, pow-mono}
 use borrow.Author.Tests.{eq-eqb, ne-eqb, leb-false, eqb-false}
-use Rattle.words.proofs.Congruence.{Congruent, same-refl, same-sym, same-trans, same-regroup, same-result, same-add, same-scale, same-lower, same-add-cancel, same-below, odd-cancel}
+use Rattle.words.proofs.Congruence.{Congruent, same-refl, same-trans, same-regroup, same-result, same-add, same-scale, same-lower, same-add-cancel, same-below, odd-cancel}
 use Rattle.generator.specs.declared.Generator.{Generator}
 use Rattle.generator.specs.declared.Refusal.{Refusal}
 use Rattle.generator.specs.declared.ValueAnswer.the-variants.{Value, Refused}
@@ -15,7 +15,7 @@ use Rattle.generator.specs.Recurrence.{step}
 use Rattle.generator.specs.Refusals.{Valid, refusalOf, numberOf}
 use Rattle.generator.specs.Replies.{valueOf}
 use Rattle.generator.specs.Predecessor.{predecessorRefusal, predecessorOf, OnlyPredecessor, PredecessorPromise}
-use Rattle.generator.proofs.Least.{Least, least-unique}
+use Rattle.generator.proofs.Least.{least-unique}
 use Rattle.generator.proofs.Refusals.{valid, cond-none, or-else-none}
 use Rattle.generator.proofs.Replies.{number-nonzero, value-refused, value-given}
 

@@ -1,10 +1,10 @@
 -- The map of i steps followed by that of j steps is the map of i + j steps, and the map of i steps takes the seed to
 -- element i: keeping the low bits at each step or once at the end comes to the same.
 use mathlib.Core.Path.{_≡_, refl, sym, ap, _∙_, subst}
-use Prim.Native.Nat.{ℕ, zero, suc, _+_, _*_, _/_, _%_, _^_, _≤_, _<_}
+use Prim.Native.Nat.{ℕ, zero, suc, _+_, _*_, _/_, _%_, _^_, _<_}
 use native.Mathlib.Nat.{add-zero, add-suc, mod-eq-of-lt}
 use native.Mathlib.Omega.{arith}
-use Rattle.words.proofs.Congruence.{Congruent, same-refl, same-sym, same-trans, same-regroup, same-mod, same-result, same-add, same-scale, same-mul, same-lower, mod-lower}
+use Rattle.words.proofs.Congruence.{Congruent, same-refl, same-trans, same-regroup, same-result, same-add, same-scale, same-mul, same-lower}
 use Rattle.generator.specs.declared.Generator.{Generator}
 use Rattle.generator.specs.declared.linear.Affine.{Affine}
 use Rattle.generator.specs.Recurrence.{step, element}

@@ -1,18 +1,27 @@
 -- The round trip of demand 2, read off the two promises: what is written for an accepted run reads as that run, and an
 -- accepted line is byte for byte what the writer makes of it.
-use mathlib.Core.Path.{_≡_, refl, sym, ap, ap₂, _∙_}
+use mathlib.Core.Path.{_≡_, refl, sym, ap, ap₂, subst, _∙_}
+use mathlib.Core.Bool.{cond}
 use mathlib.Core.List.{List}
-use Prim.Native.Nat.{ℕ, zero, suc}
-use lib.ListN.{length, take}
+use Prim.Native.Nat.{ℕ, zero, suc, _≤_}
+use native.Mathlib.Omega.{arith}
+use lib.Dec.{ltb}
+use lib.ListN.{length, take, length-take}
 use lib.Seq.{take-at}
-use Rattle.generator.specs.Replies.{ValueReply, valueReply}
+use borrow.Author.Tests.{le-ltb}
+use Rattle.generator.specs.declared.Refusal.{Refusal}
+use Rattle.generator.specs.declared.ValueAnswer.{ValueAnswer}
+use Rattle.generator.specs.declared.ValueAnswer.the-variants.{Value, Refused}
+use Rattle.generator.specs.Refusals.{numberOf, orElse}
+use Rattle.generator.specs.Replies.{ValueReply, valueReply, valueOf}
 use Rattle.generator.proofs.Refusals.{or-else-none}
+use Rattle.generator.proofs.Replies.{number-suc}
 use Rattle.lines.specs.declared.Run.{Run}
 use Rattle.lines.specs.Run.{runRefusal}
 use Rattle.lines.specs.Line.{lineOf}
-use Rattle.lines.specs.ReadLine.{RunReply, ReadPromise, acceptedRun, runReply, runOf}
+use Rattle.lines.specs.ReadLine.{RunReply, ReadPromise, acceptedRun, refusedRun, runReply, runOf}
 use Rattle.lines.specs.WriteLine.{writeRefusal, bufferAfter, WritePromise}
-use Rattle.lines.proofs.Runs.{valid-run, valid-words}
+use Rattle.lines.proofs.Runs.{valid-run, valid-words, line-short}
 
 -- the refusal and the value that a reply carries
 reply-refusal : (n v : ℕ) → valueReply n v .refusal ≡ n
@@ -58,3 +67,32 @@ pub read-writes :
     wrote .refusal ≡ 0 →
     take (wrote .value) after ≡ bytes
 read-writes r z w y = written-line w y ∙ sym (r .accepted z .line)
+
+-- For a client that has a buffer of 107 bytes: it is refused only what the run is refused, and gets the run back.
+pub write-as : {run : Run} {before after : List ℕ} {a : ValueAnswer} (b : ValueAnswer) → a ≡ b →
+    WritePromise run before after (valueOf a) → WritePromise run before after (valueOf b)
+write-as {run} {before} {after} b e w = subst (λ (c : ValueAnswer). WritePromise run before after (valueOf c)) e w
+
+room-enough : (run : Run) (buffer : List ℕ) → 107 ≤ length buffer → writeRefusal run buffer ≡ runRefusal run
+unfolding writeRefusal
+room-enough run buffer l = go (runRefusal run) refl
+  where
+    go : (n : ℕ) → runRefusal run ≡ n → orElse n (cond (ltb (length buffer) (length (lineOf run))) 8 0) ≡ n
+    go zero e = rw (le-ltb (length buffer) (length (lineOf run)) (omega (arith, line-short (valid-run run e))))
+    go (suc n) e = refl
+
+pub write-refusal : {run : Run} {before after : List ℕ} (x : Refusal) → WritePromise run before after (valueOf (Refused x)) →
+    107 ≤ length before → refusedRun (numberOf x) ≡ runReply (runRefusal run) run
+write-refusal {run} {before} x w l =
+    let e : numberOf x ≡ runRefusal run =
+    ap (λ (r : ValueReply). r .refusal) (w .equals) ∙ reply-refusal _ _ ∙ room-enough run before l in
+    let k = number-suc x in rw (← e, k .1)
+
+pub written-fits : {run : Run} {before after : List ℕ} {n : ℕ} → WritePromise run before after (valueOf (Value n)) → n ≤ length after
+written-fits {run} {before} {after} {n} w =
+    let e : n ≡ length (lineOf run) = ap (λ (r : ValueReply). r .value) (w .equals) ∙ reply-value _ (accepted w refl) in
+    omega (arith, length-take n after, ap length (written-line w refl))
+
+pub written-back : {run : Run} {before after : List ℕ} {n : ℕ} {reads : RunReply} → WritePromise run before after (valueOf (Value n)) →
+    ReadPromise (take n after) reads → reads ≡ runReply (runRefusal run) run
+written-back {run} w r = written-reads w refl r ∙ sym (ap (λ (n : ℕ). runReply n run) (written-run w refl))

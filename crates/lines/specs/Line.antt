@@ -1,6 +1,6 @@
 -- The line of a run, of six fields.
 use mathlib.Core.List.{List, [], _∷_}
-use Prim.Native.Nat.{ℕ, _^_, _<_}
+use Prim.Native.Nat.{ℕ, _^_}
 use Rattle.fields.specs.Line.{AllBelow, fieldsLine}
 use Rattle.lines.specs.declared.Run.{Run}
 

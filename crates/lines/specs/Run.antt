@@ -1,6 +1,6 @@
 -- A run of document 01: a generator, a first index and a count.
 use mathlib.Core.Bool.{Bool, cond, _||_}
-use Prim.Native.Nat.{ℕ, _+_, _^_, _≤_, _<_}
+use Prim.Native.Nat.{ℕ, _+_, _^_}
 use lib.Dec.{eqb, leb}
 use Rattle.generator.specs.Recurrence.{element}
 use Rattle.generator.specs.Refusals.{orElse, refusalOf}

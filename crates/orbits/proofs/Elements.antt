@@ -1,6 +1,6 @@
 -- A linear generator as a sequence: its elements have n places; with an odd multiplier it is isometric, since an odd
 -- factor cancels; with the multiplier 2 ^ v times an odd number each step moves a difference v places up.
-use mathlib.Core.Path.{_≡_, refl, sym, ap, _∙_, subst}
+use mathlib.Core.Path.{_≡_, refl, sym, ap, _∙_}
 use mathlib.Core.Logic.{_↔_, Iff·rfl, ⊎-elim, by-cases}
 use Prim.Native.Nat.{ℕ, zero, suc, _+_, _*_, _/_, _%_, _^_, _-_, _≤_, _<_}
 use native.Mathlib.Nat.{add-zero, add-suc, add-comm, mul-comm, mul-assoc, mul-mod-left, mod-lt, le-refl, lt-of-lt-of-le, le-of-mul-le-mul-left, le-of-eq, le-antisymm, div-add-mod'}
@@ -16,7 +16,6 @@ use Rattle.words.proofs.Congruence.{
   same-sym,
   same-trans,
   same-of-eq,
-  same-regroup,
   same-mod,
   same-add,
   same-scale,

@@ -2,9 +2,8 @@
 -- loop holds, and one law stands for each way through its body. With an even one it passes the elements up to index n,
 -- from which on nothing new comes.
 use mathlib.Core.Path.{_≡_, refl, sym, ap, subst, _∙_}
-use mathlib.Core.Bool.{true, false}
-use Prim.Native.Nat.{ℕ, zero, suc, _+_, _*_, _%_, _^_, _≤_, _<_}
-use native.Mathlib.Nat.{le-of-lt, le-refl, le-trans, le-antisymm, lt-of-lt-of-le, lt-of-le-of-lt, lt-of-not-le, mod-eq-of-lt, one-mul}
+use Prim.Native.Nat.{ℕ, suc, _+_, _*_, _%_, _^_, _≤_, _<_}
+use native.Mathlib.Nat.{le-of-lt, le-refl, le-antisymm, lt-of-lt-of-le, lt-of-le-of-lt, lt-of-not-le, mod-eq-of-lt, one-mul}
 use native.Mathlib.Decide.{decLe}
 use native.Mathlib.Numerals.{add-one}
 use native.Mathlib.Omega.{arith}
@@ -13,8 +12,8 @@ use borrow.Author.Count.{below-more}
 use borrow.Author.Tests.{eq-eqb, ne-eqb, lt-ltb, le-ltb}
 use Rattle.words.specs.Alpha.{FirstDifference}
 use Rattle.words.proofs.Congruence.{mod-lower}
-use Rattle.sequences.proofs.Agreement.{Agree, Reduced, agree-of-eq}
-use Rattle.sequences.proofs.Isometric.{Isometric, exponent, exponent-le}
+use Rattle.sequences.proofs.Agreement.{Agree, agree-of-eq}
+use Rattle.sequences.proofs.Isometric.{Isometric, exponent-le}
 use Rattle.sequences.proofs.Search.{
   Settled,
   settled-start,
@@ -34,8 +33,8 @@ use Rattle.generator.specs.declared.linear.Affine.{Affine}
 use Rattle.generator.specs.Recurrence.{step, element}
 use Rattle.generator.specs.Refusals.{Valid, numberOf, refusalOf}
 use Rattle.generator.specs.Affine.{apply, Walks, Composes}
-use Rattle.orbits.specs.Index.{indexOf, replyOf, Demand3, IndexPromise, Located, Absent}
-use Rattle.generator.proofs.Least.{Least, least-unique}
+use Rattle.orbits.specs.Index.{indexOf, replyOf, IndexPromise, Located, Absent}
+use Rattle.generator.proofs.Least.{least-unique}
 use Rattle.generator.proofs.Replies.{number-suc, number-nonzero}
 use Rattle.generator.proofs.Walking.{walks-one}
 use Rattle.orbits.proofs.Elements.{reduced, isometric, contracting}

@@ -2,16 +2,16 @@
 -- a linear generator: with an odd multiplier it is periodic from the start, with an even one it comes to rest.
 use mathlib.Core.Path.{_≡_, refl, sym, ap, _∙_}
 use mathlib.Core.Bool.{Bool}
-use Prim.Native.Nat.{ℕ, zero, suc, _+_, _-_, _*_, _/_, _%_, _^_, _≤_, _<_, suc-le-suc}
-use native.Mathlib.Nat.{le-of-lt, le-refl, le-trans, le-antisymm, lt-of-not-le, lt-of-le-of-lt, lt-of-lt-of-le}
+use Prim.Native.Nat.{ℕ, suc, _+_, _-_, _*_, _/_, _%_, _^_, _≤_, _<_, suc-le-suc}
+use native.Mathlib.Nat.{le-of-lt, le-refl, le-trans, le-antisymm, lt-of-not-le, lt-of-le-of-lt}
 use native.Mathlib.Decide.{decLe}
 use native.Mathlib.Numerals.{add-one}
 use native.Mathlib.Omega.{arith}
-use lib.Dec.{eqb, ltb, lit≤}
+use lib.Dec.{eqb}
 use lib.Pow.{pow-pos, pow-lt, pow-mono}
 use borrow.Author.Tests.{eq-eqb, ne-eqb, lt-ltb, le-ltb, eqb-true, eqb-false}
 use Rattle.words.specs.Alpha.{Alpha, FirstDifference}
-use Rattle.sequences.proofs.Agreement.{Agree, FirstDiffer, Reduced, agree-of-eq, reduced-eq}
+use Rattle.sequences.proofs.Agreement.{Agree, Reduced, reduced-eq}
 use Rattle.sequences.proofs.Isometric.{Isometric, exponent, exponent-le, exponent-stays, exponent-doubles, returns, returns-first}
 use Rattle.sequences.proofs.Contracting.{Contracting, Rests, last-rest, no-repeat, Scaling, scaling-contracting, scaled-rests}
 use Rattle.generator.specs.declared.Generator.{Generator}
@@ -29,7 +29,6 @@ use Rattle.orbits.specs.Orbit.{
   exponentOf,
   IsOrbit,
   orbitOf,
-  orbitReply,
   OrbitPromise,
 }
 use Rattle.generator.proofs.Least.{Least, least-least, least-below, least-unique}

@@ -1,6 +1,6 @@
 -- What reading the question shows. A question is the line of one number, so the laws of lines tell whether the bytes are
 -- one. It has at most 21 bytes, so whatever follows 22 bytes, they begin none.
-use mathlib.Core.Path.{_≡_, refl, ap}
+use mathlib.Core.Path.{refl, ap}
 use mathlib.Core.List.{List, [], _∷_, _++_}
 use Prim.Native.Nat.{ℕ, _≤_, _<_}
 use native.Mathlib.Omega.{arith}

@@ -2,12 +2,11 @@
 -- does from 0 on it does from every index on. In m places x has a period that is a power of two, 2 ^ e: one place
 -- further either x 0 comes again after 2 ^ e steps there too, or it differs after 2 ^ e steps, and after as many
 -- again the two differences cancel, so that the period doubles.
-use mathlib.Core.Path.{_≡_, refl, sym, ap, _∙_}
+use mathlib.Core.Path.{_≡_, refl, ap}
 use mathlib.Core.Bool.{Bool, true, false, cond}
 use mathlib.Core.Logic.{_↔_, Iff·rfl, Iff·trans, ⊎-elim, by-cases}
 use Prim.Native.Nat.{ℕ, zero, suc, _+_, _*_, _/_, _%_, _^_, _≤_, _<_}
-use native.Mathlib.Nat.{add-zero, add-suc, suc-add, zero-add, le-refl, le-of-lt}
-use native.Mathlib.Decide.{le-ind}
+use native.Mathlib.Nat.{add-zero, suc-add, zero-add, le-refl, le-of-lt}
 use native.Mathlib.Omega.{arith}
 use lib.Dec.{eqb}
 use borrow.Author.Tests.{eq-eqb, ne-eqb}

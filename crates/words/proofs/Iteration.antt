@@ -1,11 +1,11 @@
 -- Newton's iteration doubles the places of an inverse. Let y = a x = t Q + 1 with Q = 2 ^ k, and s = 2 - y. Modulo Q Q
 -- the square y y is 2 t Q + 1, so y s = 2 y - y y = 1. The subtraction is undone by adding y y on both sides.
 use mathlib.Core.Path.{_≡_, refl, sym, ap, ap₂, _∙_}
-use Prim.Native.Nat.{ℕ, suc, _+_, _*_, _/_, _%_, _^_, _≤_, _<_}
+use Prim.Native.Nat.{ℕ, _+_, _*_, _/_, _%_, _^_, _≤_, _<_}
 use native.Mathlib.Nat.{div-add-mod', mod-eq-of-lt, lt-of-lt-of-le, le-trans}
 use native.Mathlib.Omega.{arith}
 use lib.Dec.{lit<}
-use lib.Pow.{pow-add, pow-mono, pow-lt}
+use lib.Pow.{pow-add, pow-mono}
 use Rattle.words.specs.Newton.{Doubles}
 use Rattle.words.proofs.Congruence.{Congruent, from-multiples, same-refl, same-regroup, same-trans, same-sym, same-result, same-add, same-add-cancel, same-scale, same-lower}
 

@@ -1,7 +1,7 @@
 -- The machine's count of trailing zeros is α, and α of a difference modulo 2 ^ 64 is the first place in which
 -- the two numbers differ: a ≡ d + b there, so a and b agree in m places exactly when d is a multiple of 2 ^ m.
 -- And a mask of n ones keeps the low n bits.
-use mathlib.Core.Path.{_≡_, refl, sym, ap, _∙_, subst}
+use mathlib.Core.Path.{_≡_, refl, sym, ap, _∙_}
 use mathlib.Core.Bool.{not}
 use Prim.Native.Nat.{ℕ, zero, suc, _+_, _-_, _*_, _/_, _%_, _^_, _≤_, _<_}
 use native.Mathlib.Nat.{mod-one, mod-lt, mod-eq-of-lt, zero-mod, pow-suc, le-trans, lt-of-not-le}

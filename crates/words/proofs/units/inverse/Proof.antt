@@ -1,7 +1,7 @@
 -- `words::units::inverse` meets its contract: an odd number inverts itself in two places, and each step doubles them.
 use borrow.Author.Needs.{needs}
 use lib.Dec.{lit≤}
-use Rattle.words.proofs.Iteration.{odd-square, newton-doubles}
+use Rattle.words.proofs.Iteration.{odd-square}
 use Rattle.words.proofs.units.inverse.Statement.{statement}
 use Rattle.words.proofs.units.inverse.Tie as tie
 

@@ -1,0 +1,43 @@
+// A client of the lines: a run is written and read back, and its proof rests on the two calls' contracts alone.
+ghost use mathlib.Core.Path.{_≡_};
+ghost use Rattle.lines.specs.Run.{runRefusal};
+ghost use Rattle.lines.specs.ReadLine.{replyOf, runReply};
+use generator::Generator;
+use generator::ValueAnswer;
+use lines::Run;
+use lines::RunAnswer;
+
+// The run again, or its refusal.
+fn round_trip(run: Run) -> RunAnswer
+    ensures { λ r. ⌜ replyOf r ≡ runReply (runRefusal run) run ⌝ }
+{
+    let mut buffer = [0u8; 107];
+    let answer = lines::write_line(run, &mut buffer);
+    match answer {
+        ValueAnswer::Refused(refusal) => RunAnswer::Refused(refusal),
+        ValueAnswer::Value(n) => {
+            let length = n as usize;
+            lines::read_line(&buffer[..length])
+        }
+    }
+}
+
+fn main() {
+    let run = Run {
+        generator: Generator {
+            width: 10,
+            multiplier: 371,
+            increment: 995,
+            seed: 73,
+        },
+        first: 100,
+        count: 8,
+    };
+    let RunAnswer::Accepted(back) = round_trip(run) else {
+        check::expect(false);
+        return;
+    };
+    check::expect(back.generator.multiplier == 371);
+    check::expect(back.first == 100);
+    check::expect(back.count == 8);
+}

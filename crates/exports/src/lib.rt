@@ -82,6 +82,17 @@ pub struct Part {
     pub length: u64,
 }
 
+fn generator_of(width: u64, multiplier: u64, increment: u64, seed: u64) -> Generator
+    ensures { λ r. ⌜ r ≡ generatorOf width multiplier increment seed ⌝ }
+{
+    Generator {
+        width,
+        multiplier,
+        increment,
+        seed,
+    }
+}
+
 // The element at this index.
 #[no_mangle]
 pub extern "C" fn np_element(
@@ -94,12 +105,7 @@ pub extern "C" fn np_element(
     ensures { λ r. ⌜ (let g = generatorOf width multiplier increment seed in
         valueFields r ≡ valueReply (refusalOf g) (element g index)) ⌝ }
 {
-    let g = Generator {
-        width,
-        multiplier,
-        increment,
-        seed,
-    };
+    let g = generator_of(width, multiplier, increment, seed);
     value(generator::element(g, index))
 }
 
@@ -108,12 +114,7 @@ pub extern "C" fn np_element(
 pub extern "C" fn np_orbit(width: u64, multiplier: u64, increment: u64, seed: u64) -> OrbitReply
     ensures { λ r. ⌜ OrbitPromise (generatorOf width multiplier increment seed) (orbitFields r) ⌝ }
 {
-    let g = Generator {
-        width,
-        multiplier,
-        increment,
-        seed,
-    };
+    let g = generator_of(width, multiplier, increment, seed);
     orbit(orbits::orbit(g))
 }
 
@@ -128,12 +129,7 @@ pub extern "C" fn np_index(
 ) -> IndexReply
     ensures { λ r. ⌜ IndexPromise (generatorOf width multiplier increment seed) number (indexFields r) ⌝ }
 {
-    let g = Generator {
-        width,
-        multiplier,
-        increment,
-        seed,
-    };
+    let g = generator_of(width, multiplier, increment, seed);
     index(orbits::index(g, number))
 }
 
@@ -148,12 +144,7 @@ pub extern "C" fn np_predecessor(
 ) -> ValueReply
     ensures { λ r. ⌜ PredecessorPromise (generatorOf width multiplier increment seed) number (valueFields r) ⌝ }
 {
-    let g = Generator {
-        width,
-        multiplier,
-        increment,
-        seed,
-    };
+    let g = generator_of(width, multiplier, increment, seed);
     value(generator::predecessor(g, number))
 }
 
@@ -170,12 +161,7 @@ pub extern "C" fn np_variety(
     ensures { λ r. ⌜ (let run = runOf (generatorOf width multiplier increment seed) first count in
         valueFields r ≡ valueReply (runRefusal run) (varietyOf run)) ⌝ }
 {
-    let generator = Generator {
-        width,
-        multiplier,
-        increment,
-        seed,
-    };
+    let generator = generator_of(width, multiplier, increment, seed);
     value(lines::variety(Run {
         generator,
         first,
@@ -205,12 +191,7 @@ pub extern "C" fn np_write_line(
     ensures { λ r. ⌜ WritePromise (runOf (generatorOf width multiplier increment seed) first count)
         (now (buffer .entry)) (now (buffer .exit)) (valueFields r) ⌝ }
 {
-    let generator = Generator {
-        width,
-        multiplier,
-        increment,
-        seed,
-    };
+    let generator = generator_of(width, multiplier, increment, seed);
     value(lines::write_line(
         Run {
             generator,

@@ -1,10 +1,10 @@
 // The six numbers of a line.
 ghost use mathlib.Core.Path.{_≡_};
-ghost use mathlib.Core.List.{_++_};
+ghost use mathlib.Core.List.{[], _∷_, _++_};
 ghost use Prim.Native.Nat.{_≤_};
 ghost use lib.ListN.{length, drop};
-ghost use Rattle.lines.specs.Line.{lineOf};
-ghost use Rattle.lines.specs.Reading.{NumbersOf};
+ghost use Rattle.lines.specs.Line.{lineOf, numbersOf};
+ghost use Rattle.lines.specs.Reading.{NumbersOf, sixOf};
 use crate::Run;
 use fields::field::Field;
 use fields::field::field_length;
@@ -22,38 +22,41 @@ pub enum Numbers {
 pub fn read(bytes: &[u8]) -> Numbers
     ensures { λ r. ⌜ NumbersOf (now (bytes .entry)) r ⌝ }
 {
-    let Field::Number(width, n1) = read_field(bytes, 0, 44) else {
+    let mut numbers = [0u64; 5];
+    let mut at = 0;
+    let mut k = 0;
+    while k < 5 {
+        let Field::Number(number, next) = read_field(bytes, at, 44) else {
+            return Numbers::Malformed;
+        };
+        numbers[k] = number;
+        at = next;
+        k += 1;
+    }
+    let Field::Number(count, end) = read_field(bytes, at, 10) else {
         return Numbers::Malformed;
     };
-    let Field::Number(multiplier, n2) = read_field(bytes, n1, 44) else {
-        return Numbers::Malformed;
-    };
-    let Field::Number(increment, n3) = read_field(bytes, n2, 44) else {
-        return Numbers::Malformed;
-    };
-    let Field::Number(seed, n4) = read_field(bytes, n3, 44) else {
-        return Numbers::Malformed;
-    };
-    let Field::Number(first, n5) = read_field(bytes, n4, 44) else {
-        return Numbers::Malformed;
-    };
-    let Field::Number(count, n6) = read_field(bytes, n5, 10) else {
-        return Numbers::Malformed;
-    };
-    if n6 < bytes.len() {
+    if end < bytes.len() {
         return Numbers::Malformed;
     }
+    Numbers::Six(run_of(numbers, count))
+}
+
+// The run of five numbers and a count.
+fn run_of(numbers: [u64; 5], count: u64) -> Run
+    ensures { λ r. ⌜ numbersOf r ≡ sixOf numbers count ⌝ }
+{
     let generator = Generator {
-        width,
-        multiplier,
-        increment,
-        seed,
+        width: numbers[0],
+        multiplier: numbers[1],
+        increment: numbers[2],
+        seed: numbers[3],
     };
-    Numbers::Six(Run {
+    Run {
         generator,
-        first,
+        first: numbers[4],
         count,
-    })
+    }
 }
 
 // How many bytes a run's line has.
@@ -70,11 +73,20 @@ pub fn write(buffer: &mut [u8], run: Run) -> usize
     requires { ⌜ length (lineOf run) ≤ length (now buffer) ⌝ }
     ensures { λ r. ⌜ (r ≡ length (lineOf run)) × (now (buffer .exit) ≡ lineOf run ++ drop (length (lineOf run)) (now (buffer .entry))) ⌝ }
 {
+    let numbers = numbers_of(run);
+    let mut at = 0;
+    let mut i = 0;
+    while i < 5 {
+        at = write_field(buffer, at, numbers[i], 44);
+        i += 1;
+    }
+    write_field(buffer, at, run.count, 10)
+}
+
+// The numbers of a run before its count.
+fn numbers_of(run: Run) -> [u64; 5]
+    ensures { λ r. ⌜ numbersOf run ≡ r ++ (run .count ∷ []) ⌝ }
+{
     let g = run.generator;
-    let n1 = write_field(buffer, 0, g.width, 44);
-    let n2 = write_field(buffer, n1, g.multiplier, 44);
-    let n3 = write_field(buffer, n2, g.increment, 44);
-    let n4 = write_field(buffer, n3, g.seed, 44);
-    let n5 = write_field(buffer, n4, run.first, 44);
-    write_field(buffer, n5, run.count, 10)
+    [g.width, g.multiplier, g.increment, g.seed, run.first]
 }

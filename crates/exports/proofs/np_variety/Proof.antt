@@ -3,6 +3,9 @@ use borrow.Author.Needs.{needs}
 use Rattle.exports.proofs.np_variety.Statement.{statement}
 use Rattle.exports.proofs.np_variety.Tie as tie
 
+generator-of-requires : tie.Need-generator-of-requires
+generator-of-requires c κs = search needs
+
 variety-requires : tie.Need-variety-requires
 variety-requires c κs = search needs
 
@@ -10,7 +13,7 @@ value-requires : tie.Need-value-requires
 value-requires c κs = search needs
 
 returns : tie.Need-returns
-returns c = rw (c .value .ensures) (c .before .variety .ensures)
+returns c = rw (c .value .ensures) (rw (c .before .before .generator-of .ensures) at (c .before .variety .ensures))
 
 pub np-variety-spec : {M : Type 1} → statement M
-np-variety-spec = tie.close (tie.spec variety-requires value-requires returns)
+np-variety-spec = tie.close (tie.spec generator-of-requires variety-requires value-requires returns)

@@ -17,15 +17,16 @@ use Rattle.generator.specs.declared.Refusal.the-variants.{
 use Rattle.generator.specs.declared.Check.{Check}
 use Rattle.generator.specs.declared.Check.the-variants.{Accepted, Refused}
 
+-- Document 01's number for each refusal, and its word.
 abbrev pub numberOf : Refusal → ℕ
-numberOf ArchiveTooLong = 1
-numberOf MalformedLine = 2
-numberOf WidthOutOfRange = 3
-numberOf OperandOutOfRange = 4
-numberOf RunOutOfRange = 5
-numberOf ValueOutOfRange = 6
-numberOf NotInvertible = 7
-numberOf BufferTooShort = 8
+numberOf ArchiveTooLong = 1  -- overlong
+numberOf MalformedLine = 2  -- spoiled line
+numberOf WidthOutOfRange = 3  -- width
+numberOf OperandOutOfRange = 4  -- operand
+numberOf RunOutOfRange = 5  -- run
+numberOf ValueOutOfRange = 6  -- misfit
+numberOf NotInvertible = 7  -- one-way
+numberOf BufferTooShort = 8  -- short sheet
 
 -- The number that a check gives, 0 where it accepts.
 abbrev pub checkNumber : Check → ℕ

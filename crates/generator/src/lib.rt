@@ -1,4 +1,4 @@
-// The calls on one generator. Any four numbers and any index have their answer.
+// A generator, and its element, predecessor and customary multiplier. Any numbers have their answer.
 ghost use mathlib.Core.Path.{_≡_};
 ghost use Rattle.generator.specs.Recurrence as recurrence;
 ghost use Rattle.generator.specs.Refusals.{checkNumber, refusalOf};

@@ -1,7 +1,7 @@
 -- The orbit: preperiod (document 01: run-in) and period (document 01: cycle length), over any sequence.
 -- The definitions search below a bound; the record says what they find without one.
 use mathlib.Core.Path.{_≡_}
-use Prim.Native.Nat.{ℕ, suc, _+_, _^_, _≤_, _<_}
+use Prim.Native.Nat.{ℕ, zero, suc, _+_, _^_, _≤_, _<_}
 use lib.Dec.{eqb, ltb}
 use Rattle.generator.specs.declared.Generator.{Generator}
 use Rattle.orbits.specs.declared.OrbitAnswer.{OrbitAnswer}
@@ -40,7 +40,7 @@ pub record OrbitReply : Type 0 where
   pub exponent : ℕ
 
 abbrev pub orbitReply : ℕ → ℕ → ℕ → OrbitReply
-orbitReply ℕ.zero t e = record { refusal = 0; preperiod = t; exponent = e }
+orbitReply zero t e = record { refusal = 0; preperiod = t; exponent = e }
 orbitReply (suc n) t e = record { refusal = suc n; preperiod = 0; exponent = 0 }
 
 -- What an answer says.

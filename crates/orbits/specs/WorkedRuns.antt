@@ -1,6 +1,6 @@
 -- The ten proved rows of document 01's worked runs, as facts about the definitions.
 use mathlib.Core.List.{List, [], _∷_}
-use Prim.Native.Nat.{ℕ, _^_}
+use Prim.Native.Nat.{ℕ, suc, _^_}
 use Rattle.generator.specs.declared.Generator.{Generator}
 use Rattle.generator.specs.Recurrence.{element}
 use Rattle.orbits.specs.Orbit.{preperiodOf, periodOf, exponentOf}
@@ -39,7 +39,7 @@ row n a c x facts =
 -- the elements from index i on
 abbrev elements : ℕ → List ℕ → List Fact → List Fact
 elements i [] facts = facts
-elements i (v ∷ vs) facts = Element i v ∷ elements (ℕ.suc i) vs facts
+elements i (v ∷ vs) facts = Element i v ∷ elements (suc i) vs facts
 
 abbrev pub workedRuns : List Row
 workedRuns =

@@ -132,8 +132,14 @@ digits-length =
 pub length-one : (v : ℕ) → v < 10 → length (digitsOf v) ≡ 1
 length-one v h = ap length (digits-one v h)
 
-pub length-more : (v : ℕ) → 9 < v → length (digitsOf v) ≡ suc (length (digitsOf (v / 10)))
+length-more : (v : ℕ) → 9 < v → length (digitsOf v) ≡ suc (length (digitsOf (v / 10)))
 length-more v h = omega (arith, simp length-append at (ap length (digits-last v h)))
+
+-- a number from 10 ^ k on and below 10 ^ (k + 1) has k + 1 digits
+pub length-exact : (k v : ℕ) → 10 ^ k ≤ v → v < 10 ^ suc k → length (digitsOf v) ≡ suc k
+length-exact zero v low high = length-one v (omega arith)
+length-exact (suc k) v low high =
+    omega (arith, length-more v (omega arith), length-exact k (v / 10) (omega arith) (omega arith))
 
 pub length-four : (v : ℕ) → 9999 < v → length (digitsOf v) ≡ 4 + length (digitsOf (v / 10000))
 length-four v h =

@@ -3,16 +3,7 @@ use mathlib.Core.Path.{_≡_, refl, sym, ap, _∙_}
 use Prim.Native.Nat.{ℕ, suc}
 use native.Mathlib.Omega.{arith}
 use Rattle.generator.specs.declared.Refusal.{Refusal}
-use Rattle.generator.specs.declared.Refusal.the-variants.{
-  ArchiveTooLong,
-  MalformedLine,
-  WidthOutOfRange,
-  OperandOutOfRange,
-  RunOutOfRange,
-  ValueOutOfRange,
-  NotInvertible,
-  BufferTooShort,
-}
+use Rattle.generator.specs.declared.Refusal.the-variants as refusal
 use Rattle.generator.specs.declared.Check.{Check}
 use Rattle.generator.specs.declared.Check.the-variants as verdict
 use Rattle.generator.specs.declared.ValueAnswer.the-variants as answer
@@ -28,14 +19,14 @@ number-refused e f = sym (ap checkNumber f) ∙ e
 
 -- a refusal's number is not 0
 pub number-suc : (x : Refusal) → (k : ℕ) × (numberOf x ≡ suc k)
-number-suc ArchiveTooLong = (0, refl)
-number-suc MalformedLine = (1, refl)
-number-suc WidthOutOfRange = (2, refl)
-number-suc OperandOutOfRange = (3, refl)
-number-suc RunOutOfRange = (4, refl)
-number-suc ValueOutOfRange = (5, refl)
-number-suc NotInvertible = (6, refl)
-number-suc BufferTooShort = (7, refl)
+number-suc refusal.ArchiveTooLong = (0, refl)
+number-suc refusal.MalformedLine = (1, refl)
+number-suc refusal.WidthOutOfRange = (2, refl)
+number-suc refusal.OperandOutOfRange = (3, refl)
+number-suc refusal.RunOutOfRange = (4, refl)
+number-suc refusal.ValueOutOfRange = (5, refl)
+number-suc refusal.NotInvertible = (6, refl)
+number-suc refusal.BufferTooShort = (7, refl)
 
 pub number-nonzero : (x : Refusal) → numberOf x ≡ 0 → ⊥
 number-nonzero x e = let k = number-suc x in omega (arith, k .1)

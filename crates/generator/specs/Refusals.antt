@@ -4,29 +4,20 @@ use Prim.Native.Nat.{ℕ, zero, suc, _^_, _≤_, _<_}
 use lib.Dec.{eqb, leb, ltb}
 use Rattle.generator.specs.declared.Generator.{Generator}
 use Rattle.generator.specs.declared.Refusal.{Refusal}
-use Rattle.generator.specs.declared.Refusal.the-variants.{
-  ArchiveTooLong,
-  MalformedLine,
-  WidthOutOfRange,
-  OperandOutOfRange,
-  RunOutOfRange,
-  ValueOutOfRange,
-  NotInvertible,
-  BufferTooShort,
-}
+use Rattle.generator.specs.declared.Refusal.the-variants as refusal
 use Rattle.generator.specs.declared.Check.{Check}
 use Rattle.generator.specs.declared.Check.the-variants.{Accepted, Refused}
 
 -- Document 01's number for each refusal, and its word.
 abbrev pub numberOf : Refusal → ℕ
-numberOf ArchiveTooLong = 1  -- overlong
-numberOf MalformedLine = 2  -- spoiled line
-numberOf WidthOutOfRange = 3  -- width
-numberOf OperandOutOfRange = 4  -- operand
-numberOf RunOutOfRange = 5  -- run
-numberOf ValueOutOfRange = 6  -- misfit
-numberOf NotInvertible = 7  -- one-way
-numberOf BufferTooShort = 8  -- short sheet
+numberOf refusal.ArchiveTooLong = 1  -- overlong
+numberOf refusal.MalformedLine = 2  -- spoiled line
+numberOf refusal.WidthOutOfRange = 3  -- width
+numberOf refusal.OperandOutOfRange = 4  -- operand
+numberOf refusal.RunOutOfRange = 5  -- run
+numberOf refusal.ValueOutOfRange = 6  -- misfit
+numberOf refusal.NotInvertible = 7  -- one-way
+numberOf refusal.BufferTooShort = 8  -- short sheet
 
 -- The number that a check gives, 0 where it accepts.
 abbrev pub checkNumber : Check → ℕ

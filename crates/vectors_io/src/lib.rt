@@ -1,14 +1,13 @@
 // Answers stored calls. Each line of standard input is a call: its letter, and behind each comma a
 // number. Standard output has the reply to each, its numbers parted by commas, or `?` where the
 // line is no call.
-ghost use Prim.Native.Nat.{_≤_, _<_};
-ghost use lib.ListN.{length};
+use archive::parts::part_end;
 use replies::Reply;
 
-pub mod archives;
-pub mod calls;
-pub mod numbers;
-pub mod replies;
+mod archives;
+mod calls;
+mod numbers;
+mod replies;
 
 pub fn run() {
     let mut input = [0u8; 450000];
@@ -28,7 +27,7 @@ fn answer_all(input: &[u8]) {
     let mut filled = 0;
     let mut at = 0;
     while at < input.len() {
-        let end = line_end(input, at);
+        let end = part_end(input, at);
         let reply = answer(&input[at..end]);
         filled = replies::write(&mut out, filled, reply);
         if 65000 < filled {
@@ -38,21 +37,6 @@ fn answer_all(input: &[u8]) {
         at = end;
     }
     io::write_all(1, &out[0..filled]);
-}
-
-// The place behind the line that begins at `from`.
-fn line_end(input: &[u8], from: usize) -> usize
-    requires { ⌜ from < length (now input) ⌝ }
-    ensures { λ r. ⌜ (from < r) × (r ≤ length (now (input .entry))) ⌝ }
-{
-    let mut i = from;
-    while i < input.len() {
-        i += 1;
-        if input[i - 1] == 10 {
-            return i;
-        }
-    }
-    i
 }
 
 // The reply to the call that a line is.

@@ -1,9 +1,12 @@
 -- `answer_all` meets its contract. The loop's invariant: at most 65,000 of the 65,536 bytes are filled. The measure is what is left of the
 -- input.
 use mathlib.Core.Path.{_≡_}
-use Prim.Native.Nat.{_-_, _≤_}
+use Prim.Native.Nat.{_-_, _≤_, _<_}
+use native.Mathlib.Omega.{arith}
+use denote.Ref.{now}
 use borrow.Author.Needs.{needs}
 use lib.ListN.{length}
+use Rattle.archive.proofs.Passing.{part-within, part-advances}
 use Rattle.vectors_io.proofs.answer_all.Statement.{statement}
 use Rattle.vectors_io.proofs.answer_all.Tie as tie
 
@@ -19,17 +22,26 @@ large-buffer-requires c κs = search needs
 loop-holds : tie.Need-loop-holds Inv-loop μ-loop
 loop-holds c = search needs
 
-line-end-requires : tie.Need-line-end-requires Inv-loop μ-loop
-line-end-requires c κs = search needs
+part-end-requires : tie.Need-part-end-requires Inv-loop μ-loop
+part-end-requires c κs = search needs
+
+-- the line that is read lies in the input
+part : (c : tie.After-part-end Inv-loop μ-loop) →
+    (c .before .before .loop .at ≤ c .part-end .result) × (c .part-end .result ≤ length (now (c .before .before .before .before .before .args .input)))
+part c = part-within _ (c .before .loop-test .taken) (c .part-end .ensures)
+
+-- and is not empty
+ahead : (c : tie.After-part-end Inv-loop μ-loop) → c .before .before .loop .at < c .part-end .result
+ahead c = part-advances _ (c .before .loop-test .taken) (c .part-end .ensures)
 
 sub-answer : tie.Need-sub-answer Inv-loop μ-loop
-sub-answer c = search needs
+sub-answer c = part c .0
 
 part-answer-start : tie.Need-part-answer-start Inv-loop μ-loop
-part-answer-start c = search needs
+part-answer-start c = part c .0
 
 part-answer-end : tie.Need-part-answer-end Inv-loop μ-loop
-part-answer-end c = search needs
+part-answer-end c = part c .1
 
 answer-requires : tie.Need-answer-requires Inv-loop μ-loop
 answer-requires c κs = search needs
@@ -53,13 +65,17 @@ write-all-requires : tie.Need-write-all-requires Inv-loop μ-loop
 write-all-requires c κs = search needs
 
 loop-less : tie.Need-loop-less Inv-loop μ-loop
-loop-less c = search needs
+loop-less c =
+    let p = c .before .before .before .before .before .before .before .before .before in
+    omega (arith, ahead p, p .before .loop-test .taken)
 
 loop-again : tie.Need-loop-again Inv-loop μ-loop
 loop-again c = search needs
 
 loop-less-2 : tie.Need-loop-less-2 Inv-loop μ-loop
-loop-less-2 c = search needs
+loop-less-2 c =
+    let p = c .before .before .before .before .before .before in
+    omega (arith, ahead p, p .before .loop-test .taken)
 
 loop-again-2 : tie.Need-loop-again-2 Inv-loop μ-loop
 loop-again-2 c = search needs
@@ -87,7 +103,7 @@ answer-all-spec =
     μ-loop
     large-buffer-requires
     loop-holds
-    line-end-requires
+    part-end-requires
     sub-answer
     part-answer-start
     part-answer-end

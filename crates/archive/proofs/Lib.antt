@@ -1,4 +1,4 @@
--- `Splitting` is for the crates above too.
+-- `Passing` is for the crates above too.
 pub mod Splitting
 pub mod Passing
 pub mod Ahead

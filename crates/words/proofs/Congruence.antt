@@ -8,10 +8,7 @@ use Prim.Native.Nat.{ℕ, zero, suc, _+_, _*_, _/_, _%_, _^_, _-_, _≤_, _<_}
 use native.Mathlib.Nat.{add-mul-mod-self-right, div-add-mod', mod-eq-of-lt, mod-mod, mod-one, sub-add-cancel}
 use native.Mathlib.Omega.{arith}
 use lib.Pow.{pow-add}
-
--- u and v leave the same remainder modulo m
-pub record Congruent (m u v : ℕ) : Type 0 where
-  pub same : u % m ≡ v % m
+pub use Rattle.words.specs.Congruence.{Congruent}
 
 pub from-multiples : {m u v : ℕ} (p q : ℕ) → u + p * m ≡ v + q * m → Congruent m u v
 from-multiples {m} {u} {v} p q e =

@@ -71,6 +71,7 @@ alpha-difference {a} {b} {d} {r} e α =
     record {
       below = λ m l. agree m (same-lower m l (multiple-of r (α .multiple))) (le-trans l (α .small)) .same;
       above = λ m l s. last m l s (decLe m r);
+      small = α .small;
     }
   where
     sum : (m : ℕ) → m ≤ 64 → Congruent (2 ^ m) a (d + b)
@@ -93,18 +94,19 @@ alpha-difference {a} {b} {d} {r} e α =
     last m l s (yes h) = h
     last m l s (no f) = absurd (past m l s (lt-of-not-le f) (ℕ-discrete d 0))
 
--- 64 ones shifted down to n are the mask of the low n bits
-pub mask-low : (x n : ℕ) → n ≤ 64 → bitAnd x ((2 ^ 64 - 1) / 2 ^ (64 - n)) ≡ x % 2 ^ n
-mask-low x n h = ap (bitAnd x) ones ∙ and-mask x n
+-- 64 ones shifted down to n
+pub ones-shifted : (n : ℕ) → n ≤ 64 → (2 ^ 64 - 1) / 2 ^ (64 - n) ≡ 2 ^ n - 1
+ones-shifted n h =
+    ap (λ (j : ℕ). (2 ^ j - 1) / 2 ^ k) (let e : 64 ≡ n + k = omega arith in e)
+    ∙ ap (λ (m : ℕ). m / 2 ^ k) (ones-split n k)
+    ∙ high (2 ^ n - 1) k (ones-lt k)
   where
     k : ℕ
     k = 64 - n
 
-    ones : (2 ^ 64 - 1) / 2 ^ k ≡ 2 ^ n - 1
-    ones =
-        ap (λ (j : ℕ). (2 ^ j - 1) / 2 ^ k) (let e : 64 ≡ n + k = omega arith in e)
-        ∙ ap (λ (m : ℕ). m / 2 ^ k) (ones-split n k)
-        ∙ high (2 ^ n - 1) k (ones-lt k)
+-- are the mask of the low n bits
+pub mask-low : (x n : ℕ) → n ≤ 64 → bitAnd x ((2 ^ 64 - 1) / 2 ^ (64 - n)) ≡ x % 2 ^ n
+mask-low x n h = ap (bitAnd x) (ones-shifted n h) ∙ and-mask x n
 
 -- x has bits above the low n exactly when it is 2 ^ n or more
 pub exceeds-test : (n x : ℕ) → not (eqb (x % 2 ^ n) x) ≡ leb (2 ^ n) x

@@ -14,3 +14,4 @@ pub record Alpha (z r : ℕ) : Type 0 where
 pub record FirstDifference (a b r : ℕ) : Type 0 where
   pub below : (m : ℕ) → m ≤ r → a % 2 ^ m ≡ b % 2 ^ m
   pub above : (m : ℕ) → m ≤ 64 → a % 2 ^ m ≡ b % 2 ^ m → m ≤ r
+  pub small : r ≤ 64

@@ -10,7 +10,7 @@ use lib.Dec.{eqb}
 use borrow.Author.Tests.{eq-eqb, ne-eqb, eqb-true}
 use Rattle.generator.specs.declared.Refusal.{Refusal}
 use Rattle.generator.specs.Refusals.{numberOf}
-use Rattle.generator.proofs.Least.{Least, least-least, least-below}
+use Rattle.sequences.proofs.Least.{Least, least-least, least-below}
 use Rattle.generator.proofs.Replies.{number-nonzero}
 use Rattle.lines.specs.declared.Run.{Run}
 use Rattle.lines.specs.Run.{shows}

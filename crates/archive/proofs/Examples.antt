@@ -2,8 +2,8 @@
 use mathlib.Core.Path.{_≡_, refl}
 use mathlib.Core.List.{List, [], _∷_, _++_, map}
 use Prim.Native.Nat.{ℕ}
-use Rattle.generator.specs.Least.{least}
-use Rattle.generator.specs.Recurrence.{step, element}
+use Rattle.sequences.specs.Least.{least}
+use Rattle.generator.specs.Recurrence.{modulus, step, element}
 use Rattle.fields.specs.Digits.{lastDigits, digitsOf}
 use Rattle.fields.specs.Line.{fieldsLine}
 use Rattle.lines.specs.declared.Run.{Run}
@@ -37,7 +37,7 @@ parts = refl
 
 -- 5 is at line 1, position 4; 49 at line 2, position 0; 985 and 16 nowhere
 lookups : map (lookupOf 1 two) (5 ∷ 49 ∷ 985 ∷ 16 ∷ []) ≡ foundAt 1 4 ∷ foundAt 2 0 ∷ foundNone ∷ foundNone ∷ []
-unfolding lookupOf positionOf least shows element step
+unfolding lookupOf positionOf least shows element step modulus
 lookups = refl
 
 lines : map (lineAt two) (0 ∷ 1 ∷ 2 ∷ 3 ∷ []) ≡ [] ∷ first ∷ second ∷ [] ∷ []

@@ -2,20 +2,20 @@
 -- after the other: what is left of them decides the answer. And the answer meets demand 3.
 use mathlib.Core.Path.{_≡_, refl, sym, ap, _∙_, subst}
 use mathlib.Core.List.{List, _∷_}
-use Prim.Native.Nat.{ℕ, zero, suc, _+_, _-_, _≤_, _<_}
-use native.Mathlib.Nat.{add-zero, add-suc, le-refl, le-of-lt}
+use Prim.Native.Nat.{ℕ, suc, _+_, _-_, _≤_, _<_}
+use native.Mathlib.Nat.{le-refl, le-of-lt}
 use native.Mathlib.Numerals.{add-one}
 use native.Mathlib.Omega.{arith}
 use lib.ListN.{length, take, drop, drop-of-length-le}
 use borrow.Author.Tests.{eq-eqb, ne-eqb, lt-ltb, le-ltb}
 use Rattle.generator.specs.declared.Generator.{Generator}
 use Rattle.generator.specs.declared.Refusal.{Refusal}
-use Rattle.generator.specs.Recurrence.{step, element}
-use Rattle.generator.specs.Refusals.{Valid, numberOf}
-use Rattle.orbits.specs.Index.{Located, Absent}
-use Rattle.generator.proofs.Least.{least-unique}
+use Rattle.generator.specs.Recurrence.{element}
+use Rattle.generator.specs.Refusals.{numberOf}
+use Rattle.generator.specs.Kinds.{Restarted}
+use Rattle.sequences.specs.Index.{Located, Absent}
+use Rattle.sequences.proofs.Least.{least-unique}
 use Rattle.generator.proofs.Replies.{number-nonzero}
-use Rattle.orbits.proofs.Elements.{reduced}
 use Rattle.lines.specs.declared.Run.{Run}
 use Rattle.lines.specs.Run.{shows}
 use Rattle.lines.specs.Line.{lineOf}
@@ -36,61 +36,45 @@ use Rattle.archive.proofs.Passing.{part-read, part-advances}
 
 -- One run.
 
--- the generator that starts at x
-abbrev pub from : Generator → ℕ → Generator
-from g x = record { width = g .width; multiplier = g .multiplier; increment = g .increment; seed = x }
+-- from the first element on the generator yields what the run shows
+module _ (run : Run) {x : ℕ} {start : Generator} (e : x ≡ element (run .generator) (run .first))
+    (is : Restarted (run .generator) x start) where
+  from-first : (p : ℕ) → element start p ≡ shows run p
+  unfolding shows
+  from-first = is .goes-on (run .first) (sym e)
 
--- from the first element on it yields what the run shows
-from-first : (run : Run) {x : ℕ} → x ≡ element (run .generator) (run .first) → (p : ℕ) →
-    element (from (run .generator) x) p ≡ shows run p
-unfolding shows element step
-from-first run e zero = e ∙ ap (element (run .generator)) (sym (add-zero (run .first)))
-from-first run e (suc p) =
-    ap (step (run .generator)) (from-first run e p) ∙ ap (element (run .generator)) (sym (add-suc (run .first) p))
-
-pub from-valid : {g : Generator} {x : ℕ} (i : ℕ) → Valid g → x ≡ element g i → Valid (from g x)
-from-valid {g} {x} i v e =
-    record {
-      width-low = v .width-low;
-      width-high = v .width-high;
-      multiplier-below = v .multiplier-below;
-      increment-below = v .increment-below;
-      seed-below = rw e (reduced v .below i);
-    }
-
-module _ (run : Run) {x y : ℕ} (e : x ≡ element (run .generator) (run .first)) where
   -- no index yields y, or none below the count does
-  pub position-none : Absent (element (from (run .generator) x)) y → positionOf run y ≡ run .count
+  pub position-none : {y : ℕ} → Absent (element start) y → positionOf run y ≡ run .count
   unfolding positionOf
-  position-none a =
+  position-none {y} a =
       least-unique
       (record {
         within = le-refl (run .count);
         holds = λ h. absurd (omega arith);
-        first = λ j h. ne-eqb (shows run j) y (λ q. a .none j (from-first run e j ∙ q));
+        first = λ j h. ne-eqb (shows run j) y (λ q. a .none j (from-first j ∙ q));
       })
 
-  pub position-past : {p bound : ℕ} → Located (element (from (run .generator) x)) y bound p → run .count ≤ p →
+  pub position-past : {y p bound : ℕ} → Located (element start) y bound p → run .count ≤ p →
       positionOf run y ≡ run .count
   unfolding positionOf
-  position-past h l =
+  position-past {y} h l =
       least-unique
       (record {
         within = le-refl (run .count);
         holds = λ k. absurd (omega arith);
-        first = λ j k. ne-eqb (shows run j) y (λ q. omega (arith, h .first j (from-first run e j ∙ q)));
+        first = λ j k. ne-eqb (shows run j) y (λ q. omega (arith, h .first j (from-first j ∙ q)));
       })
 
-  pub position-found : {p bound : ℕ} → Located (element (from (run .generator) x)) y bound p → p < run .count →
+  pub position-found : {y p bound : ℕ} → Located (element start) y bound p → p < run .count →
       (p < run .count) × (positionOf run y ≡ p)
   unfolding positionOf
-  position-found {p} h l = (
+  position-found {y} {p} h l = (
     l,
     least-unique
         (record {
           within = le-of-lt l;
-          holds = λ k. eq-eqb (shows run p) y (sym (from-first run e p) ∙ h .yields);
-          first = λ j k. ne-eqb (shows run j) y (λ q. omega (arith, h .first j (from-first run e j ∙ q)));
+          holds = λ k. eq-eqb (shows run p) y (sym (from-first p) ∙ h .yields);
+          first = λ j k. ne-eqb (shows run j) y (λ q. omega (arith, h .first j (from-first j ∙ q)));
         }),
   )
 

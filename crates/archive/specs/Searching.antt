@@ -1,8 +1,8 @@
 -- For the function that searches one run: where it finds y.
 use mathlib.Core.Path.{_≡_}
 use Prim.Native.Nat.{ℕ, _<_}
-use Rattle.orbits.specs.declared.search.Position.{Position}
-use Rattle.orbits.specs.declared.search.Position.the-variants.{At, Never}
+use Rattle.orbits.specs.declared.kinds.Position.{Position}
+use Rattle.orbits.specs.declared.kinds.Position.the-variants.{At, Never}
 use Rattle.lines.specs.declared.Run.{Run}
 use Rattle.archive.specs.Lookup.{positionOf}
 

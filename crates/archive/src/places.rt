@@ -7,12 +7,12 @@ ghost use Rattle.archive.specs.Searching.{PositionIn};
 use crate::LookupAnswer;
 use crate::Part;
 use crate::parts::part_end;
-use generator::Generator;
-use generator::linear;
+use generator::kinds::restarted;
+use generator::kinds::value_of;
 use lines::Run;
 use lines::RunAnswer;
-use orbits::search::Position;
-use orbits::search::position_of;
+use orbits::kinds::Position;
+use orbits::kinds::position_of;
 
 // The least position of an accepted run that shows y: the index search from the run's first element on.
 pub fn position_in(run: Run, y: u64) -> Position
@@ -20,13 +20,8 @@ pub fn position_in(run: Run, y: u64) -> Position
     ensures { λ r. ⌜ PositionIn run y r ⌝ }
 {
     let g = run.generator;
-    let start = Generator {
-        width: g.width,
-        multiplier: g.multiplier,
-        increment: g.increment,
-        seed: linear::element_at(g, run.first),
-    };
-    let Position::At(p) = position_of(start, y) else {
+    let start = value_of(g, run.first);
+    let Position::At(p) = position_of(restarted(g, start), y) else {
         return Position::Never;
     };
     if p < run.count {

@@ -10,7 +10,7 @@ ghost use Rattle.generator.specs.Customary.{CustomaryPromise};
 ghost use Rattle.lines.specs.Run.{runRefusal};
 ghost use Rattle.lines.specs.ReadLine.{ReadPromise};
 ghost use Rattle.lines.specs.WriteLine.{WritePromise};
-ghost use Rattle.lines.specs.Variety.{varietyOf};
+ghost use Rattle.lines.specs.Variety.{VarietyPromise};
 ghost use Rattle.archive.specs.Line.{PartPromise};
 ghost use Rattle.archive.specs.Lookup.{LookupPromise};
 ghost use Rattle.exports.specs.Replies.{
@@ -158,8 +158,7 @@ pub extern "C" fn np_variety(
     first: u64,
     count: u64,
 ) -> ValueReply
-    ensures { λ r. ⌜ (let run = runOf (generatorOf width multiplier increment seed) first count in
-        valueFields r ≡ valueReply (runRefusal run) (varietyOf run)) ⌝ }
+    ensures { λ r. ⌜ VarietyPromise (runOf (generatorOf width multiplier increment seed) first count) (valueFields r) ⌝ }
 {
     let generator = generator_of(width, multiplier, increment, seed);
     value(lines::variety(Run {

@@ -3,8 +3,8 @@ use mathlib.Core.Path.{_≡_, refl}
 use mathlib.Core.List.{[], _∷_, map}
 use Prim.Native.Nat.{ℕ}
 use Rattle.generator.specs.declared.Generator.{Generator}
-use Rattle.generator.specs.Least.{least}
-use Rattle.generator.specs.Recurrence.{step, element}
+use Rattle.sequences.specs.Least.{least}
+use Rattle.generator.specs.Recurrence.{modulus, step, element}
 use Rattle.generator.specs.Refusals.{refusalOf}
 use Rattle.generator.specs.Predecessor.{predecessorOf, predecessorRefusal}
 use Rattle.generator.specs.Customary.{oddPower, customaryOf, customaryRefusal}
@@ -13,16 +13,16 @@ abbrev gen : ℕ → ℕ → ℕ → ℕ → Generator
 gen n a c x = record { width = n; multiplier = a; increment = c; seed = x }
 
 small : map (element (gen 4 5 3 1)) (0 ∷ 1 ∷ 2 ∷ 3 ∷ 4 ∷ 5 ∷ []) ≡ 1 ∷ 8 ∷ 11 ∷ 10 ∷ 5 ∷ 12 ∷ []
-unfolding element step
+unfolding element step modulus
 small = refl
 
 longer : map (element (gen 10 371 995 73)) (100 ∷ 1000 ∷ []) ≡ 49 ∷ 985 ∷ []
-unfolding element step
+unfolding element step modulus
 longer = refl
 
 -- the widest: element 1 of 64, 2^64 - 1, 1, 5 is (2^64 - 1) * 5 + 1 = 5 * 2^64 - 4 modulo 2^64
 widest : element (gen 64 18446744073709551615 1 5) 1 ≡ 18446744073709551612
-unfolding element step
+unfolding element step modulus
 widest = refl
 
 -- accepted; 3 for widths 0, 65 and 2^64 - 1; 4 for an operand of 2^n; 3 before 4
@@ -31,11 +31,11 @@ refusals :
     (gen 64 0 0 0 ∷ gen 0 0 0 0 ∷ gen 65 0 0 0 ∷ gen 18446744073709551615 0 0 0 ∷ gen 4 15 15 15
     ∷ gen 4 16 0 0 ∷ gen 4 0 16 0 ∷ gen 4 0 0 16 ∷ gen 0 9 9 9 ∷ [])
     ≡ 0 ∷ 3 ∷ 3 ∷ 3 ∷ 0 ∷ 4 ∷ 4 ∷ 4 ∷ 3 ∷ []
-unfolding refusalOf
+unfolding refusalOf modulus
 refusals = refl
 
 predecessors : map (predecessorOf (gen 4 5 3 1)) (8 ∷ 11 ∷ 1 ∷ []) ≡ 1 ∷ 8 ∷ 6 ∷ []
-unfolding predecessorOf least step
+unfolding predecessorOf least step modulus
 predecessors = refl
 
 -- in the order 3, 4, 6, 7
@@ -43,7 +43,7 @@ predecessor-refusals :
     predecessorRefusal (gen 65 99 0 0) 99 ∷ predecessorRefusal (gen 4 16 0 0) 99 ∷ predecessorRefusal (gen 4 2 0 0) 16
     ∷ predecessorRefusal (gen 4 2 0 0) 15 ∷ predecessorRefusal (gen 4 3 0 0) 15 ∷ []
     ≡ 3 ∷ 4 ∷ 6 ∷ 7 ∷ 0 ∷ []
-unfolding predecessorRefusal refusalOf
+unfolding predecessorRefusal refusalOf modulus
 predecessor-refusals = refl
 
 customary : map customaryOf (3 ∷ 4 ∷ 7 ∷ 36 ∷ 64 ∷ []) ≡ 5 ∷ 5 ∷ 125 ∷ 30517578125 ∷ 7450580596923828125 ∷ []

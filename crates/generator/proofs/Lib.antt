@@ -1,7 +1,7 @@
--- `Least`, `Refusals`, `Replies`, `Walking` and `Table` are for the crates above too.
-pub mod Least
+-- `Refusals`, `Replies`, `Elements`, `Walking` and `Table` are for the crates above too.
 pub mod Refusals
 pub mod Replies
+pub mod Elements
 pub mod Walking
 pub mod StepBack
 pub mod Table

@@ -13,10 +13,10 @@ use lib.Pow.{pow-mono}
 use borrow.Author.Tests.{leb-true, leb-false, le-ltb}
 use Rattle.generator.specs.declared.Refusal.the-variants.{WidthOutOfRange}
 use Rattle.generator.specs.declared.ValueAnswer.the-variants.{Value, Refused}
-use Rattle.generator.specs.Least.{least}
+use Rattle.sequences.specs.Least.{least}
 use Rattle.generator.specs.Replies.{valueOf}
 use Rattle.generator.specs.Customary.{oddPower, customaryOf, customaryRefusal, CustomaryTable, LargestOddPower, CustomaryPromise}
-use Rattle.generator.proofs.Least.{Least, least-least}
+use Rattle.sequences.proofs.Least.{Least, least-least}
 use Rattle.generator.proofs.Replies.{number-nonzero, value-refused, value-given}
 use Rattle.generator.proofs.Table.{every, every-at}
 

@@ -11,13 +11,15 @@ use Rattle.words.proofs.Congruence.{Congruent, same-refl, same-trans, same-regr
 use Rattle.generator.specs.declared.Generator.{Generator}
 use Rattle.generator.specs.declared.Refusal.{Refusal}
 use Rattle.generator.specs.declared.ValueAnswer.the-variants.{Value, Refused}
-use Rattle.generator.specs.Recurrence.{step}
-use Rattle.generator.specs.Refusals.{Valid, refusalOf, numberOf}
+use Rattle.generator.specs.Recurrence.{modulus, step}
+use Rattle.generator.specs.Refusals.{refusalOf, numberOf}
 use Rattle.generator.specs.Replies.{valueOf}
+use Rattle.generator.specs.Affine.{Linear}
 use Rattle.generator.specs.Predecessor.{predecessorRefusal, predecessorOf, OnlyPredecessor, PredecessorPromise}
-use Rattle.generator.proofs.Least.{least-unique}
-use Rattle.generator.proofs.Refusals.{valid, cond-none, or-else-none}
+use Rattle.sequences.proofs.Least.{least-unique}
+use Rattle.generator.proofs.Refusals.{modulus-linear, linear, cond-none, or-else-none}
 use Rattle.generator.proofs.Replies.{number-nonzero, value-refused, value-given}
+use Rattle.generator.proofs.Walking.{step-linear}
 
 -- the only predecessor is the least number that steps to y
 pub only-is-least : {g : Generator} {y z : ℕ} → OnlyPredecessor g y z → predecessorOf g y ≡ z
@@ -30,37 +32,39 @@ only-is-least {g} {y} {z} o =
       first = λ j h. ne-eqb (step g j) y (λ e. omega (arith, o .only j (omega (arith, o .below)) e));
     })
 
--- two numbers below 2 ^ n with the same next number are equal
+-- two numbers below the modulus with the same next number are equal
 pub step-injective :
-    (g : Generator) → g .multiplier % 2 ≡ 1 → {z w : ℕ} →
+    {g : Generator} → Linear g → g .multiplier % 2 ≡ 1 → {z w : ℕ} →
     z < 2 ^ g .width →
     w < 2 ^ g .width →
     step g z ≡ step g w →
     z ≡ w
-unfolding step
-step-injective g odd hz hw e =
+step-injective {g} v odd {z} {w} hz hw e =
     same-below
-    (odd-cancel (g .multiplier) odd (g .width) (same-add-cancel (record { same = e }) (same-refl _ (g .increment))))
+    (odd-cancel (g .multiplier) odd (g .width)
+    (same-add-cancel (record { same = sym (step-linear v z) ∙ e ∙ step-linear v w }) (same-refl _ (g .increment))))
     hz
     hw
 
 -- the inverse times y - c, in the low n bits
 pub steps-back :
     {g : Generator} (b d : ℕ) {p y z : ℕ} →
-    (Valid g) × (g .multiplier % 2 ≡ 1) × (y < 2 ^ g .width) →
+    (Linear g) × (g .multiplier % 2 ≡ 1) × (y < 2 ^ g .width) →
     g .multiplier * b % 2 ^ 64 ≡ 1 →
     (d + g .increment) % 2 ^ 64 ≡ y →
     p ≡ b * d % 2 ^ 64 →
     z ≡ p % 2 ^ g .width →
     OnlyPredecessor g y z
-unfolding step
 steps-back {g} b d {p} {y} {z} pre eb ed ep ez =
     record {
-      below = below;
+      below = rw whole below;
       steps = steps;
-      only = λ w h e. step-injective g (pre .1) h below (e ∙ sym steps);
+      only = λ w h e. step-injective (pre .0) (pre .1) (rw whole at h) below (e ∙ sym steps);
     }
   where
+    whole : modulus g ≡ 2 ^ g .width
+    whole = modulus-linear g (pre .0 .width-low)
+
     a : ℕ
     a = g .multiplier
 
@@ -83,24 +87,28 @@ steps-back {g} b d {p} {y} {z} pre eb ed ep ez =
 
     steps : step g z ≡ y
     steps =
-        same-trans (same-add scaled (same-refl P (g .increment))) (low (record { same = ed ∙ sym (mod-eq-of-lt high) })) .same
+        step-linear (pre .0) z
+        ∙ same-trans (same-add scaled (same-refl P (g .increment))) (low (record { same = ed ∙ sym (mod-eq-of-lt high) })) .same
         ∙ mod-eq-of-lt (pre .2)
 
 -- what the predecessor's refusals leave
 pub invertible :
-    (g : Generator) (y : ℕ) → predecessorRefusal g y ≡ 0 → (Valid g) × (g .multiplier % 2 ≡ 1) × (y < 2 ^ g .width)
+    (g : Generator) (y : ℕ) → predecessorRefusal g y ≡ 0 → (Linear g) × (g .multiplier % 2 ≡ 1) × (y < 2 ^ g .width)
 unfolding predecessorRefusal
 invertible g y e =
-    (valid g (both .0), omega (arith, eqb-false (g .multiplier % 2) 0 (parity .0)), leb-false _ _ (wide .0))
+    (v, omega (arith, eqb-false (g .multiplier % 2) 0 (parity .0)), rw (modulus-linear g (v .width-low)) at (leb-false (modulus g) y (wide .0)))
   where
     even : ℕ
     even = cond (eqb (g .multiplier % 2) 0) 7 0
 
-    both : (refusalOf g ≡ 0) × (cond (leb (2 ^ g .width) y) 6 even ≡ 0)
-    both = or-else-none (refusalOf g) (cond (leb (2 ^ g .width) y) 6 even) e
+    both : (refusalOf g ≡ 0) × (cond (leb (modulus g) y) 6 even ≡ 0)
+    both = or-else-none (refusalOf g) (cond (leb (modulus g) y) 6 even) e
 
-    wide : (leb (2 ^ g .width) y ≡ false) × (even ≡ 0)
-    wide = cond-none (leb (2 ^ g .width) y) 5 even (both .1)
+    v : Linear g
+    v = linear g (both .0)
+
+    wide : (leb (modulus g) y ≡ false) × (even ≡ 0)
+    wide = cond-none (leb (modulus g) y) 5 even (both .1)
 
     parity : (eqb (g .multiplier % 2) 0 ≡ false) × (_≡_ {A = ℕ} 0 0)
     parity = cond-none (eqb (g .multiplier % 2) 0) 6 0 (wide .1)

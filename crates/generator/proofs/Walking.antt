@@ -1,15 +1,18 @@
 -- The map of i steps followed by that of j steps is the map of i + j steps, and the map of i steps takes the seed to
--- element i: keeping the low bits at each step or once at the end comes to the same.
+-- element i: keeping the low bits at each step or once at the end comes to the same. From any element a map of j steps
+-- leads j indices on.
 use mathlib.Core.Path.{_≡_, refl, sym, ap, _∙_, subst}
-use Prim.Native.Nat.{ℕ, zero, suc, _+_, _*_, _/_, _%_, _^_, _<_}
+use Prim.Native.Nat.{ℕ, zero, suc, _+_, _*_, _/_, _%_, _^_, _≤_}
 use native.Mathlib.Nat.{add-zero, add-suc, mod-eq-of-lt}
+use native.Mathlib.Numerals.{add-one}
 use native.Mathlib.Omega.{arith}
 use Rattle.words.proofs.Congruence.{Congruent, same-refl, same-trans, same-regroup, same-result, same-add, same-scale, same-mul, same-lower}
+use Rattle.sequences.specs.Places.{Agree}
 use Rattle.generator.specs.declared.Generator.{Generator}
 use Rattle.generator.specs.declared.linear.Affine.{Affine}
 use Rattle.generator.specs.Recurrence.{step, element}
-use Rattle.generator.specs.Refusals.{Valid}
-use Rattle.generator.specs.Affine.{apply, iterate, Walks, Composes}
+use Rattle.generator.specs.Affine.{Linear, onceOf, apply, iterate, Walks, Strides, Composes}
+use Rattle.generator.proofs.Refusals.{modulus-linear}
 
 -- i steps and then j are i + j
 iterate-add : (a c i j x : ℕ) → iterate a c (i + j) x ≡ iterate a c j (iterate a c i x)
@@ -86,22 +89,71 @@ pub walks-odd :
     Walks a c i r
 walks-odd {a} {c} i w h k odd = walks-as (omega arith) (walks-add (walks-add w w h) (walks-one a c) k)
 
+-- one step of the linear kind
+pub step-linear : {g : Generator} → Linear g → (x : ℕ) → step g x ≡ (g .multiplier * x + g .increment) % 2 ^ g .width
+unfolding step
+step-linear {g} v x = rw (modulus-linear g (v .width-low))
+
 -- i steps from the seed, reduced once at the end
-pub element-iterate :
-    (g : Generator) → g .seed < 2 ^ g .width → (i : ℕ) →
+element-iterate :
+    {g : Generator} → Linear g → (i : ℕ) →
     element g i ≡ iterate (g .multiplier) (g .increment) i (g .seed) % 2 ^ g .width
-unfolding element step iterate
-element-iterate g h zero = sym (mod-eq-of-lt h)
-element-iterate g h (suc i) =
-    same-affine (g .multiplier) (g .increment) (same-result _ (element-iterate g h i)) .same
+unfolding element iterate
+element-iterate v zero = sym (mod-eq-of-lt (v .seed-below))
+element-iterate {g} v (suc i) =
+    step-linear v (element g i)
+    ∙ same-affine (g .multiplier) (g .increment) (same-result _ (element-iterate v i)) .same
 
 -- the map of i steps at the seed, and then the low bits
 pub element-walks :
     {g : Generator} {i x : ℕ} {f : Affine} →
-    Valid g →
+    Linear g →
     Walks (g .multiplier) (g .increment) i f →
     x ≡ apply f (g .seed) % 2 ^ 64 →
     x % 2 ^ g .width ≡ element g i
 element-walks {g} {i} v w e =
     same-lower (g .width) (v .width-high) (same-trans (same-result _ e) (record { same = w .walks (g .seed) })) .same
-    ∙ sym (element-iterate g (v .seed-below) i)
+    ∙ sym (element-iterate v i)
+
+-- the map of one step at any number, and then the low bits
+pub next-once :
+    {g : Generator} (x : ℕ) {y : ℕ} {f : Affine} →
+    Linear g →
+    f ≡ onceOf g →
+    y ≡ apply f x % 2 ^ 64 →
+    y % 2 ^ g .width ≡ step g x
+next-once {g} x v e h =
+    same-lower (g .width) (v .width-high) (same-result _ (h ∙ ap (λ (f : Affine). apply f x % 2 ^ 64) e)) .same
+    ∙ sym (step-linear v x)
+
+-- Strides over the elements: one step; a stride twice; what a stride does to a number that stands for an element.
+pub strides-once : {g : Generator} {f : Affine} → Linear g → f ≡ onceOf g → Strides (g .width) (element g) 1 f
+unfolding element
+strides-once {g} {f} v e =
+    record {
+      leads =
+          λ k.
+          ap (λ (f : Affine). apply f (element g k) % 2 ^ g .width) e
+          ∙ sym (same-result _ (step-linear v (element g k)) .same)
+          ∙ ap (λ (i : ℕ). element g i % 2 ^ g .width) (sym (add-one k));
+    }
+
+module _ {n : ℕ} {x : ℕ → ℕ} {j : ℕ} {f : Affine} (l : n ≤ 64) (s : Strides n x j f) where
+  -- a number that stands for element k is led to one that stands for element k + j
+  leads-on : {u v : ℕ} (k : ℕ) → Congruent (2 ^ n) u (x k) → v ≡ apply f u % 2 ^ 64 → Congruent (2 ^ n) v (x (k + j))
+  leads-on k h e =
+      same-trans (same-lower n l (same-result _ e))
+      (same-trans (same-affine (f .factor) (f .offset) h) (record { same = s .leads k }))
+
+  pub strides-value : {u v : ℕ} (k : ℕ) → Agree n u (x k) → v ≡ apply f u % 2 ^ 64 → Agree n v (x (k + j))
+  strides-value k h e = record { places = leads-on k (h .places) e }
+
+  pub strides-twice : {r : Affine} → Composes f f r → Strides n x (j + j) r
+  strides-twice c =
+      record {
+        leads =
+            λ k.
+            same-trans (same-lower n l (record { same = c .composes (x k) }))
+            (same-trans (same-affine (f .factor) (f .offset) (record { same = s .leads k }))
+            (record { same = s .leads (k + j) ∙ ap (λ (i : ℕ). x i % 2 ^ n) (let q : k + j + j ≡ k + (j + j) = omega arith in q) })) .same;
+      }

@@ -5,7 +5,7 @@ use mathlib.Core.List.{List}
 use Prim.Native.Nat.{ℕ, suc, _+_, _*_, _^_, _≤_, _<_}
 use lib.Dec.{leb, ltb}
 use lib.ListN.{getD}
-use Rattle.generator.specs.Least.{least}
+use Rattle.sequences.specs.Least.{least}
 use Rattle.generator.specs.Replies.{ValueReply, valueReply}
 
 -- The odd powers of 5, counted from 0: 5, 125, 3125, ..

@@ -1,28 +1,28 @@
 -- The predecessor of a number.
 use mathlib.Core.Path.{_≡_}
 use mathlib.Core.Bool.{cond}
-use Prim.Native.Nat.{ℕ, _%_, _^_, _<_}
+use Prim.Native.Nat.{ℕ, _%_, _<_}
 use lib.Dec.{eqb, leb}
 use Rattle.generator.specs.declared.Generator.{Generator}
-use Rattle.generator.specs.Least.{least}
-use Rattle.generator.specs.Recurrence.{step}
+use Rattle.sequences.specs.Least.{least}
+use Rattle.generator.specs.Recurrence.{modulus, step}
 use Rattle.generator.specs.Refusals.{orElse, refusalOf}
 use Rattle.generator.specs.Replies.{ValueReply, valueReply}
 
--- After 3 and 4, 6: the number is 2 ^ n or more; 7: the multiplier is even.
+-- After 3 and 4, 6: the number is not below the modulus; 7: the multiplier is even.
 unfoldable pub predecessorRefusal : Generator → ℕ → ℕ
 predecessorRefusal g y =
-    orElse (refusalOf g) (cond (leb (2 ^ g .width) y) 6 (cond (eqb (g .multiplier % 2) 0) 7 0))
+    orElse (refusalOf g) (cond (leb (modulus g) y) 6 (cond (eqb (g .multiplier % 2) 0) 7 0))
 
--- The least number below 2 ^ n that one step takes to y.
+-- The least number below the modulus that one step takes to y.
 unfoldable pub predecessorOf : Generator → ℕ → ℕ
-predecessorOf g y = least (λ z. eqb (step g z) y) (2 ^ g .width)
+predecessorOf g y = least (λ z. eqb (step g z) y) (modulus g)
 
--- z is the only number below 2 ^ n that one step takes to y.
+-- z is the only number below the modulus that one step takes to y.
 pub record OnlyPredecessor (g : Generator) (y z : ℕ) : Type 0 where
-  pub below : z < 2 ^ g .width
+  pub below : z < modulus g
   pub steps : step g z ≡ y
-  pub only : (w : ℕ) → w < 2 ^ g .width → step g w ≡ y → w ≡ z
+  pub only : (w : ℕ) → w < modulus g → step g w ≡ y → w ≡ z
 
 -- The promise of the call: the reply is the definition's, and an accepted one is the only predecessor.
 pub record PredecessorPromise (g : Generator) (y : ℕ) (reply : ValueReply) : Type 0 where

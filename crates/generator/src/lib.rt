@@ -5,9 +5,10 @@ ghost use Rattle.generator.specs.Refusals.{checkNumber, refusalOf};
 ghost use Rattle.generator.specs.Replies.{valueOf, valueReply};
 ghost use Rattle.generator.specs.Predecessor.{predecessorRefusal, PredecessorPromise};
 ghost use Rattle.generator.specs.Customary.{CustomaryPromise};
-use words::bits::exceeds;
+use kinds::exceeds_modulus;
 
 pub mod customary;
+pub mod kinds;
 pub mod linear;
 pub mod refusal_number;
 
@@ -51,13 +52,13 @@ pub fn checked(g: Generator) -> Check
     if 64 < n {
         return Check::Refused(Refusal::WidthOutOfRange);
     }
-    if exceeds(g.multiplier, n) {
+    if exceeds_modulus(g, g.multiplier) {
         return Check::Refused(Refusal::OperandOutOfRange);
     }
-    if exceeds(g.increment, n) {
+    if exceeds_modulus(g, g.increment) {
         return Check::Refused(Refusal::OperandOutOfRange);
     }
-    if exceeds(g.seed, n) {
+    if exceeds_modulus(g, g.seed) {
         return Check::Refused(Refusal::OperandOutOfRange);
     }
     Check::Accepted
@@ -71,7 +72,7 @@ pub fn element(g: Generator, index: u64) -> ValueAnswer
     if let Check::Refused(refusal) = verdict {
         return ValueAnswer::Refused(refusal);
     }
-    ValueAnswer::Value(linear::element_at(g, index))
+    ValueAnswer::Value(kinds::value_of(g, index))
 }
 
 // The conditions of the predecessor call.
@@ -82,7 +83,7 @@ fn predecessor_checked(g: Generator, value: u64) -> Check
     if let Check::Refused(_) = verdict {
         return verdict;
     }
-    if exceeds(value, g.width) {
+    if exceeds_modulus(g, value) {
         return Check::Refused(Refusal::ValueOutOfRange);
     }
     if g.multiplier % 2 == 0 {

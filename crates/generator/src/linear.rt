@@ -1,10 +1,9 @@
 // The linear kind: the map of i steps, made from the map of half of i, and what rests on it.
 ghost use mathlib.Core.Path.{_≡_};
 ghost use Prim.Native.Nat.{_+_, _%_, _^_, _<_};
-ghost use Rattle.generator.specs.Recurrence.{element};
-ghost use Rattle.generator.specs.Refusals.{Valid};
+ghost use Rattle.generator.specs.Recurrence.{element, step};
 ghost use Rattle.generator.specs.Predecessor.{OnlyPredecessor};
-ghost use Rattle.generator.specs.Affine.{Walks, Composes, apply};
+ghost use Rattle.generator.specs.Affine.{Linear, Walks, Composes, apply, onceOf};
 use crate::Generator;
 use std::num::wrapping_add_u64;
 use std::num::wrapping_sub_u64;
@@ -23,6 +22,16 @@ pub fn value_at(f: Affine, x: u64) -> u64
     ensures { λ r. ⌜ r ≡ apply f x % 2 ^ 64 ⌝ }
 {
     wrapping_add_u64(wrapping_mul(f.factor, x), f.offset)
+}
+
+// The map of one step.
+pub fn once(g: Generator) -> Affine
+    ensures { λ r. ⌜ r ≡ onceOf g ⌝ }
+{
+    Affine {
+        factor: g.multiplier,
+        offset: g.increment,
+    }
 }
 
 // The map `first`, followed by the map `second`.
@@ -58,11 +67,19 @@ pub fn jump(a: u64, c: u64, i: u64) -> Affine
 
 // Element i of an accepted generator.
 pub fn element_at(g: Generator, index: u64) -> u64
-    requires { ⌜ Valid g ⌝ }
+    requires { ⌜ Linear g ⌝ }
     ensures { λ r. ⌜ r ≡ element g index ⌝ }
 {
     let map = jump(g.multiplier, g.increment, index);
     low_bits(value_at(map, g.seed), g.width)
+}
+
+// The number one step after x.
+pub fn next(g: Generator, x: u64) -> u64
+    requires { ⌜ Linear g ⌝ }
+    ensures { λ r. ⌜ r ≡ step g x ⌝ }
+{
+    low_bits(value_at(once(g), x), g.width)
 }
 
 // What a step had before it added c and gave y.
@@ -74,7 +91,7 @@ fn before_increment(y: u64, c: u64) -> u64
 
 // The only number that one step of an accepted generator with an odd multiplier takes to y.
 pub fn step_back(g: Generator, y: u64) -> u64
-    requires { ⌜ (Valid g) × (g .multiplier % 2 ≡ 1) × (y < 2 ^ g .width) ⌝ }
+    requires { ⌜ (Linear g) × (g .multiplier % 2 ≡ 1) × (y < 2 ^ g .width) ⌝ }
     ensures { λ r. ⌜ OnlyPredecessor g y r ⌝ }
 {
     let scaled = before_increment(y, g.increment);

@@ -3,10 +3,10 @@ use mathlib.Core.Path.{_≡_, refl}
 use mathlib.Core.List.{[], _∷_, map}
 use Prim.Native.Nat.{ℕ}
 use lib.ListN.{length}
-use Rattle.generator.specs.Least.{least}
-use Rattle.generator.specs.Recurrence.{step, element}
+use Rattle.sequences.specs.Least.{least}
+use Rattle.generator.specs.Recurrence.{modulus, step, element}
 use Rattle.generator.specs.Refusals.{refusalOf}
-use Rattle.orbits.specs.Orbit.{returnOf, preperiodOf, periodOf}
+use Rattle.sequences.specs.Orbit.{returnOf, preperiodOf, periodOf}
 use Rattle.fields.specs.Digits.{lastDigits, digitsOf}
 use Rattle.fields.specs.Line.{fieldsLine}
 use Rattle.lines.specs.declared.Run.{Run}
@@ -51,13 +51,13 @@ refusals :
     ∷ run 4 16 3 1 0 0
     ∷ [])
     ≡ 0 ∷ 5 ∷ 5 ∷ 3 ∷ 4 ∷ []
-unfolding runRefusal refusalOf
+unfolding runRefusal refusalOf modulus
 refusals = refl
 
 shown : map (shows (run 10 371 995 73 100 8)) (0 ∷ 1 ∷ []) ≡ 49 ∷ 742 ∷ []
-unfolding shows element step
+unfolding shows element step modulus
 shown = refl
 
 varieties : map varietyOf (run 4 5 3 1 0 10 ∷ run 4 5 3 1 0 20 ∷ run 5 3 0 2 7 9 ∷ []) ≡ 10 ∷ 16 ∷ 4 ∷ []
-unfolding varietyOf periodOf preperiodOf returnOf least element step
+unfolding varietyOf periodOf preperiodOf returnOf least element step modulus
 varieties = refl

@@ -2,29 +2,35 @@
 use mathlib.Core.Path.{_≡_, sym, ap, _∙_}
 use mathlib.Core.Bool.{false, cond}
 use mathlib.Core.Logic.{by-cases}
-use Prim.Native.Nat.{ℕ, suc, _+_, _*_, _%_, _^_, _-_, _≤_, _<_}
-use native.Mathlib.Nat.{lt-of-lt-of-le, mod-eq-of-lt, one-mul}
+use Prim.Native.Nat.{ℕ, suc, _+_, _^_, _-_, _≤_, _<_, min}
+use native.Mathlib.Nat.{lt-of-lt-of-le}
 use native.Mathlib.Decide.{decLt}
 use native.Mathlib.Omega.{arith}
 use lib.Dec.{eqb, leb}
 use lib.ListN.{length, length-append}
-use lib.Pow.{pow-mono, pow-lt}
 use borrow.Author.Tests.{eqb-false, leb-false}
-use Rattle.generator.specs.Recurrence.{element}
-use Rattle.generator.specs.Refusals.{Valid, refusalOf}
-use Rattle.orbits.specs.Orbit.{periodOf}
-use Rattle.generator.proofs.Refusals.{valid, cond-none, or-false, or-else-none}
+use Rattle.sequences.proofs.Orbits.{period-is}
+use Rattle.generator.specs.declared.Refusal.{Refusal}
+use Rattle.generator.specs.declared.ValueAnswer.the-variants.{Value, Refused}
+use Rattle.generator.specs.Recurrence.{modulus}
+use Rattle.generator.specs.Refusals.{refusalOf, numberOf}
+use Rattle.generator.specs.Replies.{valueOf}
+use Rattle.generator.proofs.Refusals.{Accepted, accepted, modulus-word, cond-none, or-false, or-else-none}
+use Rattle.generator.proofs.Replies.{number-nonzero, value-refused, value-given}
+use Rattle.orbits.specs.declared.kinds.Cycle.{Cycle}
+use Rattle.orbits.specs.Orbit.{IsCycle}
+use Rattle.orbits.proofs.Orbits.{cycle-room}
 use Rattle.fields.specs.Digits.{digitsOf}
 use Rattle.fields.specs.Line.{fieldsLine}
 use Rattle.fields.proofs.Digits.{digits-length}
 use Rattle.lines.specs.declared.Run.{Run}
 use Rattle.lines.specs.Run.{runRefusal, countRefused}
 use Rattle.lines.specs.Line.{lineOf, Words}
-use Rattle.lines.specs.Variety.{varietyOf}
+use Rattle.lines.specs.Variety.{varietyOf, VarietyPromise}
 
 -- an accepted run
 pub record ValidRun (run : Run) : Type 0 where
-  pub generator : Valid (run .generator)
+  pub generator : refusalOf (run .generator) ≡ 0
   pub some : 1 ≤ run .count
   pub end : run .first + run .count < 2 ^ 64
 
@@ -32,7 +38,7 @@ pub valid-run : (run : Run) → runRefusal run ≡ 0 → ValidRun run
 unfolding runRefusal
 valid-run run e =
     record {
-      generator = valid (run .generator) (parts .0);
+      generator = parts .0;
       some = omega (arith, eqb-false (run .count) 0 (range .0));
       end = leb-false (2 ^ 64) (run .first + run .count) (range .1);
     }
@@ -57,11 +63,11 @@ pub valid-words : {run : Run} → ValidRun run → Words run
 valid-words {run} v =
     (omega (arith, g .width-high), (below (g .multiplier-below), (below (g .increment-below), (below (g .seed-below), (omega (arith, v .end), (omega (arith, v .end), tt))))))
   where
-    g : Valid (run .generator)
-    g = v .generator
+    g : Accepted (run .generator)
+    g = accepted (run .generator) (v .generator)
 
-    below : {x : ℕ} → x < 2 ^ run .generator .width → x < 2 ^ 64
-    below h = lt-of-lt-of-le h (pow-mono (g .width-high))
+    below : {x : ℕ} → x < modulus (run .generator) → x < 2 ^ 64
+    below h = lt-of-lt-of-le h (modulus-word (run .generator) (v .generator))
 
 -- the digits of the six numbers, and a mark for each
 pub line-length : (run : Run) →
@@ -86,7 +92,7 @@ line-short {run} v =
         omega (
           arith,
           line-length run,
-          digits-length (run .generator .width) 1 (omega (arith, v .generator .width-high)),
+          digits-length (run .generator .width) 1 (omega (arith, accepted (run .generator) (v .generator) .width-high)),
           digits-length (run .generator .multiplier) 19 (omega (arith, w .1 .0)),
           digits-length (run .generator .increment) 19 (omega (arith, w .1 .1 .0)),
           digits-length (run .generator .seed) 19 (omega (arith, w .1 .1 .1 .0)),
@@ -94,26 +100,24 @@ line-short {run} v =
           digits-length (run .count) j q,
         )
 
--- the variety, by the exponent of the period
-module _ {run : Run} {e : ℕ} (v : ValidRun run)
-    (p : (e ≤ run .generator .width) × (periodOf (element (run .generator)) (2 ^ run .generator .width) ≡ 2 ^ e)) where
-  -- a period of 2 ^ 64 is above every count
-  pub variety-whole : e ≡ 64 → run .count ≡ varietyOf run
+-- the variety, by the period less 1
+module _ (run : Run) {cycle : Cycle} {v : ℕ} (z : runRefusal run ≡ 0) (is : IsCycle (run .generator) cycle)
+    (e : v ≡ min (run .count) (cycle .last + 1)) where
+  pub variety-given : VarietyPromise run (valueOf (Value v))
   unfolding varietyOf
-  variety-whole q = omega (arith, v .end, p .1 ∙ ap (λ (j : ℕ). 2 ^ j) q)
+  variety-given =
+      record {
+        equals = value-given _ z (e ∙ ap (min (run .count)) (sym (period-is (is .orbit) (cycle-room is))));
+        meaning =
+            λ q.
+            record {
+              preperiod = cycle .preperiod;
+              period = cycle .last + 1;
+              orbit = is .orbit;
+              smaller = e;
+            };
+      }
 
-  pub exponent-small : (e ≡ 64 → ⊥) → e < 64
-  exponent-small d = omega (arith, p .0, v .generator .width-high)
-
-  -- the shift that the machine makes is the period
-  shifted : (e ≡ 64 → ⊥) → 1 * 2 ^ e % 2 ^ 64 ≡ periodOf (element (run .generator)) (2 ^ run .generator .width)
-  shifted d =
-      ap (λ (t : ℕ). t % 2 ^ 64) (one-mul (2 ^ e)) ∙ mod-eq-of-lt (pow-lt (exponent-small d)) ∙ sym (p .1)
-
-  pub variety-count : (e ≡ 64 → ⊥) → run .count < 1 * 2 ^ e % 2 ^ 64 → run .count ≡ varietyOf run
-  unfolding varietyOf
-  variety-count d l = omega (arith, shifted d)
-
-  pub variety-period : (e ≡ 64 → ⊥) → 1 * 2 ^ e % 2 ^ 64 ≤ run .count → 1 * 2 ^ e % 2 ^ 64 ≡ varietyOf run
-  unfolding varietyOf
-  variety-period d l = omega (arith, shifted d)
+pub variety-refused : (run : Run) (x : Refusal) → numberOf x ≡ runRefusal run → VarietyPromise run (valueOf (Refused x))
+variety-refused run x e =
+    record { equals = value-refused x _ e; meaning = λ z. absurd (number-nonzero x z) }

@@ -1,17 +1,17 @@
 // Runs: their lines, read and written, and their variety.
 ghost use mathlib.Core.Path.{_≡_};
 ghost use Rattle.generator.specs.Refusals.{checkNumber};
-ghost use Rattle.generator.specs.Replies.{valueOf, valueReply};
+ghost use Rattle.generator.specs.Replies.{valueOf};
 ghost use Rattle.lines.specs.Run.{runRefusal};
 ghost use Rattle.lines.specs.ReadLine.{ReadPromise, replyOf};
 ghost use Rattle.lines.specs.WriteLine.{WritePromise};
-ghost use Rattle.lines.specs.Variety.{varietyOf};
+ghost use Rattle.lines.specs.Variety.{VarietyPromise};
 use generator::Check;
 use generator::Generator;
 use generator::Refusal;
 use generator::ValueAnswer;
 use numbers::Numbers;
-use orbits::periods;
+use orbits::kinds::cycle_of;
 
 pub mod numbers;
 
@@ -75,19 +75,18 @@ pub fn write_line(run: Run, buffer: &mut [u8]) -> ValueAnswer
 
 // The smaller of a run's count and its period.
 pub fn variety(run: Run) -> ValueAnswer
-    ensures { λ r. ⌜ valueOf r ≡ valueReply (runRefusal run) (varietyOf run) ⌝ }
+    ensures { λ r. ⌜ VarietyPromise run (valueOf r) ⌝ }
 {
     let verdict = checked(run);
     if let Check::Refused(refusal) = verdict {
         return ValueAnswer::Refused(refusal);
     }
-    let exponent = periods::period_exponent(run.generator);
-    if exponent == 64 {
-        return ValueAnswer::Value(run.count);
+    let count = run.count;
+    let cycle = cycle_of(run.generator);
+    let last = cycle.last;
+    if last < count {
+        let period = last + 1;
+        return ValueAnswer::Value(period);
     }
-    let period = 1 << exponent;
-    if run.count < period {
-        return ValueAnswer::Value(run.count);
-    }
-    ValueAnswer::Value(period)
+    ValueAnswer::Value(count)
 }

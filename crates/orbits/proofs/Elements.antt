@@ -3,7 +3,7 @@
 use mathlib.Core.Path.{_≡_, refl, sym, ap, _∙_}
 use mathlib.Core.Logic.{_↔_, Iff·rfl, ⊎-elim, by-cases}
 use Prim.Native.Nat.{ℕ, zero, suc, _+_, _*_, _/_, _%_, _^_, _-_, _≤_, _<_}
-use native.Mathlib.Nat.{add-zero, add-suc, add-comm, mul-comm, mul-assoc, mul-mod-left, mod-lt, le-refl, lt-of-lt-of-le, le-of-mul-le-mul-left, le-of-eq, le-antisymm, div-add-mod'}
+use native.Mathlib.Nat.{add-comm, mul-comm, mul-assoc, mul-mod-left, mod-lt, le-refl, lt-of-lt-of-le, le-of-mul-le-mul-left, le-of-eq, le-antisymm, div-add-mod'}
 use native.Mathlib.Decide.{ℕ-discrete}
 use native.Mathlib.Omega.{arith}
 use lib.Pow.{pow-add, pow-pos, pow-mono}
@@ -16,7 +16,7 @@ use Rattle.words.proofs.Congruence.{
   same-sym,
   same-trans,
   same-of-eq,
-  same-mod,
+  same-result,
   same-add,
   same-scale,
   same-add-cancel,
@@ -30,58 +30,45 @@ use Rattle.sequences.proofs.Agreement.{Agree, Reduced, agree-lower, agree-zero}
 use Rattle.sequences.proofs.Isometric.{Isometric}
 use Rattle.sequences.proofs.Contracting.{Contracting, Scaling, scaling-contracting}
 use Rattle.generator.specs.declared.Generator.{Generator}
-use Rattle.generator.specs.Recurrence.{step, element}
-use Rattle.generator.specs.Refusals.{Valid}
-use Rattle.generator.specs.Affine.{iterate}
-use Rattle.generator.proofs.Walking.{same-affine}
+use Rattle.generator.specs.Recurrence.{element}
+use Rattle.generator.specs.Affine.{Linear}
+use Rattle.generator.proofs.Walking.{step-linear}
 
-pub reduced : {g : Generator} → Valid g → Reduced (g .width) (element g)
-unfolding element step
+pub reduced : {g : Generator} → Linear g → Reduced (g .width) (element g)
+unfolding element
 reduced {g} v = record { below = below }
   where
     below : (i : ℕ) → element g i < 2 ^ g .width
     below zero = v .seed-below
-    below (suc i) = mod-lt _ (pow-pos (g .width))
+    below (suc i) = rw (step-linear v (element g i)) (mod-lt _ (pow-pos (g .width)))
 
--- a step, before its low bits are kept, agrees with the next element in all n places
-next-place : (g : Generator) (m i : ℕ) → m ≤ g .width →
-    Congruent (2 ^ m) (element g (suc i)) (g .multiplier * element g i + g .increment)
-unfolding element step
-next-place g m i l = same-lower m l (same-mod (2 ^ g .width) _)
+module _ {g : Generator} (v : Linear g) where
+  -- a step, before its low bits are kept, agrees with the next element in all n places
+  next-place : (m i : ℕ) → m ≤ g .width →
+      Congruent (2 ^ m) (element g (suc i)) (g .multiplier * element g i + g .increment)
+  unfolding element
+  next-place m i l = same-lower m l (same-result _ (step-linear v (element g i)))
 
--- j steps from element k, not reduced, agree with element k + j
-pub iterate-element : (g : Generator) (k j : ℕ) →
-    Agree (g .width) (iterate (g .multiplier) (g .increment) j (element g k)) (element g (k + j))
-unfolding iterate element
-iterate-element g k j = record { places = go j }
-  where
-    go : (j : ℕ) →
-        Congruent (2 ^ g .width) (iterate (g .multiplier) (g .increment) j (element g k)) (element g (k + j))
-    go zero = same-of-eq _ (ap (element g) (sym (add-zero k)))
-    go (suc j) =
-        same-trans (same-affine (g .multiplier) (g .increment) (go j))
-        (same-trans (same-sym (next-place g (g .width) (k + j) (omega arith))) (same-of-eq _ (ap (element g) (sym (add-suc k j)))))
-
--- between the elements' congruence and that of the next ones stands that of the products
-module _ (g : Generator) (m i j : ℕ) (l : m ≤ g .width) where
-  products : Congruent (2 ^ m) (element g (suc i)) (element g (suc j)) ↔
+  -- between the elements' congruence and that of the next ones stands that of the products
+  products : (m i j : ℕ) → m ≤ g .width →
+      Congruent (2 ^ m) (element g (suc i)) (element g (suc j)) ↔
       Congruent (2 ^ m) (g .multiplier * element g i) (g .multiplier * element g j)
-  products = (
+  products m i j l = (
     λ h.
-        same-add-cancel (same-trans (same-sym (next-place g m i l)) (same-trans h (next-place g m j l)))
+        same-add-cancel (same-trans (same-sym (next-place m i l)) (same-trans h (next-place m j l)))
         (same-refl _ (g .increment)),
     λ h.
-        same-trans (next-place g m i l)
-        (same-trans (same-add h (same-refl _ (g .increment))) (same-sym (next-place g m j l))),
+        same-trans (next-place m i l)
+        (same-trans (same-add h (same-refl _ (g .increment))) (same-sym (next-place m j l))),
   )
 
-pub isometric : (g : Generator) → g .multiplier % 2 ≡ 1 → Isometric (g .width) (element g)
-isometric g odd =
+pub isometric : {g : Generator} → Linear g → g .multiplier % 2 ≡ 1 → Isometric (g .width) (element g)
+isometric {g} v odd =
     record {
       step =
           λ m i j l. (
-            λ h. record { places = products g m i j l .1 (same-scale (g .multiplier) (h .places)) },
-            λ h. record { places = odd-cancel (g .multiplier) odd m (products g m i j l .0 (h .places)) },
+            λ h. record { places = products v m i j l .1 (same-scale (g .multiplier) (h .places)) },
+            λ h. record { places = odd-cancel (g .multiplier) odd m (products v m i j l .0 (h .places)) },
           );
     }
 
@@ -148,8 +135,8 @@ module _ {a v : ℕ} (s : Split a v) (m u w : ℕ) where
 zero-places : {a : ℕ} → a ≡ 0 → (m u w : ℕ) → Congruent (2 ^ m) (a * u) (a * w)
 zero-places {a} e m u w = same-of-eq _ (rw e (omega arith))
 
-pub scaling : {g : Generator} {v : ℕ} → Valid g → g .multiplier % 2 ≡ 0 → Alpha (g .multiplier) v → Scaling (g .width) v (element g)
-scaling {g} {v} valid even α = by-cases (ℕ-discrete (g .multiplier) 0) none some
+pub scaling : {g : Generator} {v : ℕ} → Linear g → g .multiplier % 2 ≡ 0 → Alpha (g .multiplier) v → Scaling (g .width) v (element g)
+scaling {g} {v} lin even α = by-cases (ℕ-discrete (g .multiplier) 0) none some
   where
     a : ℕ
     a = g .multiplier
@@ -160,10 +147,10 @@ scaling {g} {v} valid even α = by-cases (ℕ-discrete (g .multiplier) 0) none s
           positive = omega (arith, α .at-zero e);
           exact =
               λ m i j l. (
-                λ h. record { places = products g (m + v) i j l .1 (zero-places e (m + v) _ _) },
-                λ h. agree-lower m (omega (arith, α .at-zero e, valid .width-high)) (agree-zero _ _),
+                λ h. record { places = products lin (m + v) i j l .1 (zero-places e (m + v) _ _) },
+                λ h. agree-lower m (omega (arith, α .at-zero e, lin .width-high)) (agree-zero _ _),
               );
-          full = λ m i j l h. record { places = products g (g .width) i j (le-refl _) .1 (zero-places e (g .width) _ _) };
+          full = λ m i j l h. record { places = products lin (g .width) i j (le-refl _) .1 (zero-places e (g .width) _ _) };
         }
 
     some : (a ≡ 0 → ⊥) → Scaling (g .width) v (element g)
@@ -172,12 +159,12 @@ scaling {g} {v} valid even α = by-cases (ℕ-discrete (g .multiplier) 0) none s
           positive = positive v α;
           exact =
               λ m i j l. (
-                λ h. record { places = products g (m + v) i j l .1 (split-places s m _ _ .0 (h .places)) },
-                λ h. record { places = split-places s m _ _ .1 (products g (m + v) i j l .0 (h .places)) },
+                λ h. record { places = products lin (m + v) i j l .1 (split-places s m _ _ .0 (h .places)) },
+                λ h. record { places = split-places s m _ _ .1 (products lin (m + v) i j l .0 (h .places)) },
               );
           full =
               λ m i j l h.
-              record { places = products g (g .width) i j (le-refl _) .1 (same-lower (g .width) l (split-places s m _ _ .0 (h .places))) };
+              record { places = products lin (g .width) i j (le-refl _) .1 (same-lower (g .width) l (split-places s m _ _ .0 (h .places))) };
         }
       where
         s : Split a v
@@ -188,7 +175,7 @@ scaling {g} {v} valid even α = by-cases (ℕ-discrete (g .multiplier) 0) none s
         positive (suc v) β = omega arith
 
 -- so an even multiplier contracts
-pub contracting : {g : Generator} → Valid g → g .multiplier % 2 ≡ 0 → Contracting (g .width) (element g)
+pub contracting : {g : Generator} → Linear g → g .multiplier % 2 ≡ 0 → Contracting (g .width) (element g)
 contracting {g} v even =
     scaling-contracting
     (scaling v even (trailing-alpha (g .multiplier) (lt-of-lt-of-le (v .multiplier-below) (pow-mono (v .width-high)))))

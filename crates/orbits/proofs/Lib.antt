@@ -1,6 +1,6 @@
--- `Elements` and `WorkedRuns` are for the crates above too.
+-- `Orbits` and `WorkedRuns` are for the crates above too.
 pub mod Elements
-pub mod Places
+pub mod Searches
 pub mod Orbits
 pub mod Indices
 pub mod WorkedRuns

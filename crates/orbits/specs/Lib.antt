@@ -1,4 +1,4 @@
--- What the contracts of this crate cite. All but `Located`, `Absent` and `PositionIs` at the end of `Index`, which are for
+-- What the contracts of this crate cite. All but `IsCycle` and `PositionIs` at the ends of `Orbit` and `Index`, which are for
 -- the functions behind the calls, is what has to be believed of them.
 pub mod Orbit
 pub mod Index

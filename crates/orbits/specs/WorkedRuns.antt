@@ -1,10 +1,12 @@
--- The ten proved rows of document 01's worked runs, as facts about the definitions.
+-- The ten proved rows of document 01's worked runs, and the theorem that covers them.
+use mathlib.Core.Path.{_≡_}
 use mathlib.Core.List.{List, [], _∷_}
-use Prim.Native.Nat.{ℕ, suc, _^_}
+use Prim.Native.Nat.{ℕ, suc}
+use Rattle.sequences.specs.Orbit.{preperiodOf, periodOf}
+use Rattle.sequences.specs.Index.{indexOf}
 use Rattle.generator.specs.declared.Generator.{Generator}
-use Rattle.generator.specs.Recurrence.{element}
-use Rattle.orbits.specs.Orbit.{preperiodOf, periodOf, exponentOf}
-use Rattle.orbits.specs.Index.{indexOf}
+use Rattle.generator.specs.Recurrence.{modulus, element}
+use Rattle.orbits.specs.Orbit.{exponentOf}
 
 pub data Fact : Type 0 where
   Element : ℕ → ℕ → Fact
@@ -17,20 +19,22 @@ pub record Row : Type 0 where
   pub generator : Generator
   pub facts : List Fact
 
--- The two sides of a fact. An index of 2 ^ n is that of a number that no index below 2 ^ n yields.
-abbrev pub left : Generator → Fact → ℕ
-left g (Element i v) = element g i
-left g (Preperiod t) = preperiodOf (element g) (2 ^ g .width)
-left g (Exponent e) = exponentOf (periodOf (element g) (2 ^ g .width))
-left g (Index y k) = indexOf (element g) (2 ^ g .width) y
-left g (Never y) = indexOf (element g) (2 ^ g .width) y
+-- What a fact says, by the definitions; of a number that never comes also that no index, however large, yields it.
+abbrev pub Holds : Generator → Fact → Type 0
+Holds g (Element i v) = element g i ≡ v
+Holds g (Preperiod t) = preperiodOf (element g) (modulus g) ≡ t
+Holds g (Exponent e) = exponentOf (periodOf (element g) (modulus g)) ≡ e
+Holds g (Index y k) = indexOf (element g) (modulus g) y ≡ k
+Holds g (Never y) = (indexOf (element g) (modulus g) y ≡ modulus g) × ((i : ℕ) → element g i ≡ y → ⊥)
 
-abbrev pub right : Generator → Fact → ℕ
-right g (Element i v) = v
-right g (Preperiod t) = t
-right g (Exponent e) = e
-right g (Index y k) = k
-right g (Never y) = 2 ^ g .width
+-- each fact of a list, and each row of a table
+abbrev pub Facts : Generator → List Fact → Type 0
+Facts g [] = Unit
+Facts g (f ∷ fs) = Holds g f × Facts g fs
+
+abbrev pub Rows : List Row → Type 0
+Rows [] = Unit
+Rows (r ∷ rs) = Facts (r .generator) (r .facts) × Rows rs
 
 abbrev row : ℕ → ℕ → ℕ → ℕ → List Fact → Row
 row n a c x facts =
@@ -54,3 +58,7 @@ workedRuns =
     ∷ row 4 6 1 1 (elements 0 (1 ∷ 7 ∷ 11 ∷ 3 ∷ 3 ∷ []) (Preperiod 3 ∷ Index 3 3 ∷ []))
     ∷ row 1 1 1 0 (elements 0 (0 ∷ 1 ∷ 0 ∷ []) (Exponent 1 ∷ []))
     ∷ []
+
+-- The theorem: every fact of every row holds. `worked-runs` in proofs/ is its proof.
+abbrev pub WorkedRuns : Type 0
+WorkedRuns = Rows workedRuns

@@ -5,9 +5,10 @@ use generator::Check;
 use generator::Generator;
 use generator::Refusal;
 use generator::checked;
-use search::Position;
+use kinds::Position;
 
-pub mod periods;
+pub mod kinds;
+pub mod linear;
 pub mod search;
 
 pub enum OrbitAnswer {
@@ -31,13 +32,13 @@ pub fn orbit(g: Generator) -> OrbitAnswer
     }
     if g.multiplier % 2 == 0 {
         return OrbitAnswer::Orbit {
-            preperiod: periods::preperiod(g),
+            preperiod: linear::preperiod(g),
             exponent: 0,
         };
     }
     OrbitAnswer::Orbit {
         preperiod: 0,
-        exponent: periods::exponent(g),
+        exponent: linear::exponent(g),
     }
 }
 
@@ -49,7 +50,7 @@ pub fn index(g: Generator, value: u64) -> IndexAnswer
     if let Check::Refused(refusal) = verdict {
         return IndexAnswer::Refused(refusal);
     }
-    let position = search::position_of(g, value);
+    let position = kinds::position_of(g, value);
     match position {
         Position::At(k) => IndexAnswer::At(k),
         Position::Never => IndexAnswer::Never,

@@ -1,93 +1,64 @@
-// The least index that yields a number, without stepping through the indices of an odd multiplier.
-ghost use mathlib.Core.Path.{_≡_};
-ghost use Prim.Native.Nat.{_%_, _^_, _<_};
+// The search up the bit places, for every generator whose elements agree in their low places exactly when the next ones do.
+ghost use Prim.Native.Nat.{_≤_};
+ghost use Rattle.sequences.specs.Places.{Isometric, Settles};
 ghost use Rattle.generator.specs.Recurrence.{element};
-ghost use Rattle.generator.specs.Refusals.{Valid};
-ghost use Rattle.orbits.specs.Index.{PositionIs};
+ghost use Rattle.generator.specs.Affine.{Linear};
 use generator::Generator;
-use generator::linear::Affine;
 use generator::linear::compose;
+use generator::linear::once;
 use generator::linear::value_at;
-use words::bits::exceeds;
-use words::bits::low_bits;
+use std::num::wrapping_add_u64;
 use words::first_difference;
 
-// Where a number stands in a sequence.
-pub enum Position {
-    At(u64),
-    Never,
+// How many places were settled; the least index that agrees in them, and the exponent of the period in them.
+pub struct Settled {
+    pub places: u64,
+    pub index: u64,
+    pub exponent: u64,
 }
 
-// For an odd multiplier: up the bit places. After m places k is the least index whose element agrees with y in them, x
-// that element, 2^e the period in them and `map` the map of one period. At the next place the period stays or doubles,
-// and x agrees with y or differs: if it stays and x differs, no index agrees.
-pub fn by_places(g: Generator, y: u64) -> Position
-    requires { ⌜ (Valid g) × (g .multiplier % 2 ≡ 1) × (y < 2 ^ g .width) ⌝ }
-    ensures { λ r. ⌜ PositionIs (element g) y (2 ^ g .width) r ⌝ }
+// Goes up at most `limit` bit places, as long as an element agrees with y in them. With m places settled k is the least
+// index whose element agrees with y in them, x stands for that element, 2^e is the period in them, `period` that number
+// modulo 2^64, and `map` the map of one period. At the next place the period stays or doubles, and x agrees with y or
+// differs: if it stays and x differs, no index agrees there.
+pub fn settle(g: Generator, y: u64, limit: u64) -> Settled
+    requires { ⌜ (Linear g) × (Isometric (g .width) (element g)) × (limit ≤ g .width) ⌝ }
+    ensures { λ r. ⌜ Settles (element g) y limit (r .places) (r .index) (r .exponent) ⌝ }
 {
-    let n = g.width;
-    let mut map = Affine {
-        factor: g.multiplier,
-        offset: g.increment,
-    };
+    let mut map = once(g);
     let mut x = g.seed;
     let mut k: u64 = 0;
+    let mut period: u64 = 1;
     let mut e: u64 = 0;
-    let mut m = 0;
-    while m < n {
+    let mut m: u64 = 0;
+    while m < limit {
         let next = value_at(map, x);
         let returning = first_difference(next, x);
         let agreeing = first_difference(x, y);
+        let place = m;
         m += 1;
-        if m <= returning {
-            if agreeing < m {
-                return Position::Never;
-            }
-        } else {
-            let ahead = k + (1 << e);
+        if returning == place {
+            let ahead = k + period;
             map = compose(map, map);
+            period = wrapping_add_u64(period, period);
             e += 1;
-            if agreeing < m {
+            if agreeing == place {
                 k = ahead;
                 x = next;
             }
+        } else {
+            if agreeing == place {
+                return Settled {
+                    places: place,
+                    index: k,
+                    exponent: e,
+                };
+            }
         }
     }
-    Position::At(k)
-}
-
-// For an even multiplier: the elements of the preperiod and the one that stays, at most n + 1 of them.
-pub fn by_steps(g: Generator, y: u64) -> Position
-    requires { ⌜ (Valid g) × (g .multiplier % 2 ≡ 0) ⌝ }
-    ensures { λ r. ⌜ PositionIs (element g) y (2 ^ g .width) r ⌝ }
-{
-    let n = g.width;
-    let once = Affine {
-        factor: g.multiplier,
-        offset: g.increment,
-    };
-    let mut x = g.seed;
-    let mut i = 0;
-    while i <= n {
-        if x == y {
-            return Position::At(i);
-        }
-        x = low_bits(value_at(once, x), n);
-        i += 1;
+    Settled {
+        places: m,
+        index: k,
+        exponent: e,
     }
-    Position::Never
-}
-
-// The least index of an accepted generator that yields y, if one does.
-pub fn position_of(g: Generator, y: u64) -> Position
-    requires { ⌜ Valid g ⌝ }
-    ensures { λ r. ⌜ PositionIs (element g) y (2 ^ g .width) r ⌝ }
-{
-    if exceeds(y, g.width) {
-        return Position::Never;
-    }
-    if g.multiplier % 2 == 0 {
-        return by_steps(g, y);
-    }
-    by_places(g, y)
 }

@@ -19,10 +19,7 @@ use Rattle.words.proofs.Congruence.{
   same-lower,
   same-below,
 }
-
--- u and v agree in the lowest m places
-pub record Agree (m u v : ℕ) : Type 0 where
-  pub places : Congruent (2 ^ m) u v
+pub use Rattle.sequences.specs.Places.{Agree}
 
 -- equal numbers agree in any number of places, and so does each with itself
 pub agree-of-eq : (m : ℕ) {u v : ℕ} → u ≡ v → Agree m u v
@@ -90,16 +87,6 @@ two-lifts {m} {u} {v} {w} h k = agree-bit (agree-trans (h .agree) (k .agree)) (o
 -- the least number that agrees with i in m places is the one below 2 ^ m
 pub agree-least : {m i k : ℕ} → Agree m i k → k < 2 ^ m → k ≤ i
 agree-least {m} {i} {k} h l = omega (arith, mod-le i (2 ^ m), mod-eq-of-lt l, h .places .same)
-
--- numbers that agree in m places are equal or at least 2 ^ m apart
-pub agree-gap : {m u d : ℕ} → Agree m (u + d) u → 1 ≤ d → 2 ^ m ≤ d
-agree-gap {m} {u} {d} h l = omega (arith, near)
-  where
-    near : d < 2 ^ m → ⊥
-    near b =
-        let from-zero : Agree m 0 d =
-        record { places = from-multiples ((u + d) / 2 ^ m) (u / 2 ^ m) (omega (arith, to-multiples (h .places))) } in
-        omega (arith, agree-least from-zero b)
 
 -- every element of x is a number of n places
 pub record Reduced (n : ℕ) (x : ℕ → ℕ) : Type 0 where

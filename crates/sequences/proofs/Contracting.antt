@@ -1,14 +1,22 @@
 -- Contracting sequences: one step later two elements agree in one place more, up to n. So neighbours x (i + 1)
--- and x i agree in i places, and from n on x rests: it is constant. An element that comes again is where x
--- rests already, for its neighbour agrees with it in m + 1 places on the next visit if in m places on this one.
+-- and x i agree in i places, and x rests at n at the latest. An element that comes again is where x rests already,
+-- for its neighbour agrees with it in m + 1 places on the next visit if in m places on this one. So the preperiod
+-- is where x first rests, and the period is 1.
 -- Where each step adds exactly v places, as multiplication by 2 ^ v times an odd number does, the neighbours
 -- that first differ at place w first differ at w + i * v after i steps, and x rests as soon as that reaches n.
 use mathlib.Core.Path.{_≡_, sym, ap, _∙_}
+use mathlib.Core.Bool.{Bool}
 use mathlib.Core.Logic.{_↔_, by-cases}
-use Prim.Native.Nat.{ℕ, zero, suc, _+_, _-_, _*_, _/_, _≤_, _<_, min}
-use native.Mathlib.Nat.{zero-add, suc-add, le-refl, le-of-lt, le-div-iff-mul-le, lt-div-mul-add}
+use Prim.Native.Nat.{ℕ, zero, suc, _+_, _-_, _*_, _/_, _≤_, _<_, suc-le-suc}
+use native.Mathlib.Nat.{zero-add, suc-add, le-refl, le-of-lt, lt-of-not-le, le-div-iff-mul-le, lt-div-mul-add}
 use native.Mathlib.Decide.{decLe}
+use native.Mathlib.Numerals.{add-one}
 use native.Mathlib.Omega.{arith}
+use lib.Dec.{eqb}
+use borrow.Author.Tests.{eq-eqb, eqb-true, eqb-false}
+use Rattle.sequences.specs.Least.{least}
+use Rattle.sequences.specs.Orbit.{IsOrbit}
+use Rattle.sequences.proofs.Least.{Least, least-least, least-below}
 use Rattle.sequences.proofs.Agreement.{
   Agree,
   FirstDiffer,
@@ -48,18 +56,9 @@ module _ {n : ℕ} {x : ℕ → ℕ} (con : Contracting n x) (red : Reduced n x)
   pub next-equal : (i j : ℕ) → x i ≡ x j → x (suc i) ≡ x (suc j)
   next-equal i j e = reduced-eq red (suc i) (suc j) (keeps-once con n i j (le-refl n) (agree-of-eq n e))
 
-  -- once x rests it stays
-  pub rest-on : (t : ℕ) → x (suc t) ≡ x t → (k : ℕ) → x (t + k) ≡ x t
-  rest-on t r zero = ap x (omega arith)
-  rest-on t r (suc k) =
-      let e : t + suc k ≡ suc (t + k) = omega arith in rw e (next-equal (t + k) t (rest-on t r k) ∙ r)
-
   -- it rests at n at the latest
   pub last-rest : x (suc n) ≡ x n
   last-rest = reduced-eq red (suc n) n (neighbours con n (le-refl n))
-
-  pub constant : (k : ℕ) → x (n + k) ≡ x n
-  constant = rest-on n last-rest
 
   -- an element that comes again is where x rests
   pub rest-of-repeat : (i j : ℕ) → i < j → x j ≡ x i → x (suc i) ≡ x i
@@ -80,18 +79,36 @@ module _ {n : ℕ} {x : ℕ → ℕ} (con : Contracting n x) (red : Reduced n x)
   pub no-repeat : {t : ℕ} → Rests x t → (i j : ℕ) → i < t → i < j → x j ≡ x i → ⊥
   no-repeat r i j l b e = r .moves i l (rest-of-repeat i j b e)
 
-  -- each element stands at an index up to t, if x rests at t
-  pub index-below : (t : ℕ) → x (suc t) ≡ x t → (i : ℕ) → x i ≡ x (min i t)
-  index-below t r i = by-cases (decLe i t) (λ l. ap x (omega arith)) later
-    where
-      later : (i ≤ t → ⊥) → x i ≡ x (min i t)
-      later d =
-          let p : t + (i - t) ≡ i = omega arith in
-          let q : min i t ≡ t = omega arith in rw q (rw p at (rest-on t r (i - t)))
+  -- so its orbit is what it passes before it rests, and the element that stays
+  pub rest-orbit : {t : ℕ} → Rests x t → (t ≤ n) × IsOrbit x t 1
+  rest-orbit {t} r = (
+    elim (decLe t n) [ yes l ↦ l | no f ↦ absurd (r .moves n (lt-of-not-le f) last-rest) ],
+    record {
+      positive = le-refl 1;
+      returns = ap x (add-one t) ∙ r .rest;
+      shortest = λ d l e. l;
+      first = no-repeat r;
+    },
+  )
 
-  -- so a number that is not among them has no index
-  pub rest-never : {y : ℕ} (t : ℕ) → x (suc t) ≡ x t → ((i : ℕ) → i ≤ t → x i ≡ y → ⊥) → (i : ℕ) → x i ≡ y → ⊥
-  rest-never t r d i e = d (min i t) (omega arith) (sym (index-below t r i) ∙ e)
+  -- and it has one
+  pub resting : (t : ℕ) × Rests x t
+  resting = (
+    t,
+    record {
+      rest = eqb-true _ _ (l .holds (suc-le-suc (least-below l n (eq-eqb (x (suc n)) (x n) last-rest))));
+      moves = λ i h. eqb-false (x (suc i)) (x i) (l .first i h);
+    },
+  )
+    where
+      still : ℕ → Bool
+      still i = eqb (x (suc i)) (x i)
+
+      t : ℕ
+      t = least still (suc n)
+
+      l : Least still (suc n) t
+      l = least-least still (suc n)
 
 -- each step adds exactly v places, up to n
 pub record Scaling (n v : ℕ) (x : ℕ → ℕ) : Type 0 where

@@ -9,6 +9,7 @@ use Prim.Native.Nat.{ℕ, zero, suc, _+_, _*_, _/_, _%_, _^_, _≤_, _<_}
 use native.Mathlib.Nat.{add-zero, suc-add, zero-add, le-refl, le-of-lt}
 use native.Mathlib.Omega.{arith}
 use lib.Dec.{eqb}
+use lib.Pow.{pow-pos}
 use borrow.Author.Tests.{eq-eqb, ne-eqb}
 use Rattle.words.proofs.Congruence.{Congruent, to-multiples}
 use Rattle.sequences.proofs.Agreement.{
@@ -23,14 +24,12 @@ use Rattle.sequences.proofs.Agreement.{
   agree-dec,
   agree-next,
   agree-lift,
-  agree-gap,
   two-lifts,
   reduced-eq,
 }
-
--- for m ≤ n, two elements agree in m places exactly when the next two do
-pub record Isometric (n : ℕ) (x : ℕ → ℕ) : Type 0 where
-  pub step : (m i j : ℕ) → m ≤ n → Agree m (x i) (x j) ↔ Agree m (x (suc i)) (x (suc j))
+use Rattle.sequences.specs.Orbit.{IsOrbit}
+use Rattle.sequences.proofs.Orbits.{return-orbit}
+pub use Rattle.sequences.specs.Places.{Isometric}
 
 -- any number of steps
 pub shift : {n : ℕ} {x : ℕ → ℕ} → Isometric n x → (m k i j : ℕ) → m ≤ n →
@@ -138,17 +137,13 @@ period-law {x = x} iso (suc m) l p =
     (λ h. rw (← p, stays x refl h) (next-stays iso l before h))
     (λ d. rw (← p, doubles x refl d) (next-doubles iso l before d))
 
-module _ {n : ℕ} {x : ℕ → ℕ} (iso : Isometric n x) (red : Reduced n x) where
-  -- the elements themselves are equal exactly at indices that are congruent modulo 2 ^ exponent x n
-  pub equal-elements : (i j : ℕ) → (x i ≡ x j) ↔ Agree (exponent x n) i j
-  equal-elements i j = (
-    λ e. period-law iso n (le-refl n) refl .law i j .0 (agree-of-eq n e),
-    λ a. reduced-eq red i j (period-law iso n (le-refl n) refl .law i j .1 a),
-  )
-
-  -- each element returns first after 2 ^ exponent x n steps
-  pub returns : (i : ℕ) → x (i + 2 ^ exponent x n) ≡ x i
-  returns i = equal-elements (i + 2 ^ exponent x n) i .1 (agree-next (exponent x n) i)
-
-  pub returns-first : (i d : ℕ) → 1 ≤ d → x (i + d) ≡ x i → 2 ^ exponent x n ≤ d
-  returns-first i d l e = agree-gap (equal-elements (i + d) i .0 e) l
+-- all n places of the elements: the orbit has no preperiod, and its period is a power of two
+pub isometric-orbit : {n : ℕ} {x : ℕ → ℕ} → Isometric n x → Reduced n x → IsOrbit x 0 (2 ^ exponent x n)
+isometric-orbit {n} {x} iso red =
+    return-orbit (pow-pos (exponent x n)) λ i. (
+      λ e. law i .0 (agree-of-eq n e) .places,
+      λ a. reduced-eq red i 0 (law i .1 (record { places = a })),
+    )
+  where
+    law : (i : ℕ) → Agree n (x i) (x 0) ↔ Agree (exponent x n) i 0
+    law i = period-law iso n (le-refl n) refl .law i 0

@@ -6,7 +6,7 @@ use Prim.Native.Nat.{ℕ, zero, suc, _≤_, _<_}
 use native.Mathlib.Nat.{lt-of-not-le, le-antisymm, lt-of-lt-of-le}
 use native.Mathlib.Decide.{decLe}
 use native.Mathlib.Omega.{arith}
-use Rattle.generator.specs.Least.{least}
+use Rattle.sequences.specs.Least.{least}
 
 pub record Least (p : ℕ → Bool) (bound k : ℕ) : Type 0 where
   pub within : k ≤ bound

@@ -1,4 +1,7 @@
 -- Laws over an arbitrary sequence of numbers, for every kind of generator.
+pub mod Least
+pub mod Orbits
+pub mod Indices
 pub mod Agreement
 pub mod Isometric
 pub mod Search

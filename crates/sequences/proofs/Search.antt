@@ -3,12 +3,19 @@
 -- m places. One place further each of two tests has two ways out: does x return after 2 ^ e steps there too, or
 -- only after twice as many? Does x k agree with y there too? Only if it returns and does not agree is there no
 -- index at all; otherwise k or k + 2 ^ e goes on.
-use mathlib.Core.Path.{_≡_, refl}
+use mathlib.Core.Path.{_≡_, refl, sym, ap, subst, _∙_}
 use mathlib.Core.Logic.{_↔_}
-use Prim.Native.Nat.{ℕ, suc, _+_, _^_, _≤_, _<_}
-use native.Mathlib.Nat.{le-refl, le-of-lt}
+use Prim.Native.Nat.{ℕ, suc, _+_, _%_, _^_, _≤_, _<_}
+use native.Mathlib.Nat.{le-of-lt, le-trans, le-antisymm, lt-of-lt-of-le, lt-of-not-le, mod-eq-of-lt}
+use native.Mathlib.Decide.{decLe}
+use native.Mathlib.Numerals.{add-one}
 use native.Mathlib.Omega.{arith}
-use lib.Pow.{pow-pos}
+use lib.Pow.{pow-pos, pow-lt, pow-mono}
+use Rattle.words.specs.Alpha.{FirstDifference}
+use Rattle.words.proofs.Congruence.{Congruent, same-refl, same-sym, same-trans}
+use Rattle.sequences.specs.Index.{Located, Absent}
+use Rattle.sequences.specs.Orbit.{IsOrbit}
+use Rattle.sequences.specs.Places.{Settles}
 use Rattle.sequences.proofs.Agreement.{
   Agree,
   Reduced,
@@ -20,18 +27,21 @@ use Rattle.sequences.proofs.Agreement.{
   agree-below,
   agree-next,
   agree-least,
+  reduced-eq,
   two-lifts,
 }
 use Rattle.sequences.proofs.Isometric.{
   Isometric,
   Periodic,
   exponent,
+  exponent-le,
   exponent-stays,
   exponent-doubles,
   period-law,
 }
+use Rattle.sequences.proofs.Orbits.{return-orbit}
 
--- the loop's invariant: m places are settled, 2 ^ e is the period in them, and k is the least index whose
+-- m places are settled, 2 ^ e is the period in them, and k is the least index whose
 -- element agrees with y in them
 pub record Settled (x : ℕ → ℕ) (y m e k : ℕ) : Type 0 where
   pub period-exponent : exponent x m ≡ e
@@ -55,11 +65,6 @@ matches {x = x} iso {y} {m} {e} {k} l s i =
   where
     per : Periodic x m e
     per = period-law iso m l (s .period-exponent)
-
--- and k is the least of them
-pub matches-least : {n : ℕ} {x : ℕ → ℕ} → Isometric n x → {y m e k : ℕ} → m ≤ n → Settled x y m e k →
-    (i : ℕ) → Agree m (x i) y → k ≤ i
-matches-least iso l s i a = agree-least (matches iso l s i .0 a) (s .below)
 
 -- The next place. Two tests, four ways through the loop's body.
 module _ {n : ℕ} {x : ℕ → ℕ} (iso : Isometric n x) {y m e k : ℕ} (l : m < n) (s : Settled x y m e k) where
@@ -98,13 +103,173 @@ module _ {n : ℕ} {x : ℕ → ℕ} (iso : Isometric n x) {y m e k : ℕ} (l : 
           period-law iso (suc m) l (exponent-stays iso k l (s .period-exponent) h) .law i k .1
           (matches iso (le-of-lt l) s i .0 (agree-lower m (omega arith) a))
 
--- With all n places settled, k is the least index of y.
-pub found : {n : ℕ} {x : ℕ → ℕ} → Reduced n x → {y e k : ℕ} → y < 2 ^ n → Settled x y n e k → x k ≡ y
-found red {k = k} l s = agree-below (s .agrees) (red .below k) l
+-- The loop. Beside k it holds a number that stands for x k and the period modulo 2 ^ 64, and it makes its two tests by
+-- the first place in which two held numbers differ.
 
-pub found-least : {n : ℕ} {x : ℕ → ℕ} → Isometric n x → {y e k : ℕ} → Settled x y n e k → (i : ℕ) → x i ≡ y → k ≤ i
-found-least {n} iso s i q = matches-least iso (le-refl n) s i (agree-of-eq n q)
+-- what it begins with
+pub record Begins (n : ℕ) (x : ℕ → ℕ) (seed limit : ℕ) : Type 0 where
+  pub isometric : Isometric n x
+  pub start : Agree n seed (x 0)
+  pub within : limit ≤ n
+  pub word : n ≤ 64
 
--- where no element agrees, y has no index, however large
-pub unmatched-never : {x : ℕ → ℕ} {y m : ℕ} → Unmatched x y m → (i : ℕ) → x i ≡ y → ⊥
-unmatched-never {m = m} u i q = u .none i (agree-of-eq m q)
+-- what it holds with m places settled
+pub record Searching (n : ℕ) (x : ℕ → ℕ) (y limit held k period e m : ℕ) : Type 0 where
+  pub places : m ≤ limit
+  pub settled : Settled x y m e k
+  pub stands : Agree n held (x k)
+  pub power : period ≡ 2 ^ e % 2 ^ 64
+
+pub search-start : {n : ℕ} {x : ℕ → ℕ} {seed limit : ℕ} (y : ℕ) → Begins n x seed limit → Searching n x y limit seed 0 1 0 0
+search-start {x = x} y b =
+    record { places = omega arith; settled = settled-start x y; stands = b .start; power = refl }
+
+-- u and w stand for s and t
+module _ {n u w s t r : ℕ} (h : Agree n u s) (k : Agree n w t) (d : FirstDifference u w r) {m : ℕ} (l : m ≤ n) where
+  pub places-agree : m ≤ r → Agree m s t
+  places-agree b =
+      agree-trans (agree-sym (agree-lower m l h))
+      (agree-trans (record { places = record { same = d .below m b } }) (agree-lower m l k))
+
+  pub places-reach : n ≤ 64 → Agree m s t → m ≤ r
+  places-reach b a =
+      d .above m (le-trans l b) (agree-trans (agree-lower m l h) (agree-trans a (agree-sym (agree-lower m l k))) .places .same)
+
+module _ {n : ℕ} {x : ℕ → ℕ} {seed limit : ℕ} (b : Begins n x seed limit) {y held k period e m : ℕ}
+    (s : Searching n x y limit held k period e m) where
+  settled-places : m ≤ n
+  settled-places = le-trans (s .places) (b .within)
+
+  -- what is handed back with m places settled, if no element agrees in one place more
+  handed : (m < limit → Unmatched x y (suc m)) → Settles x y limit m k e
+  handed u =
+      record {
+        within = s .places;
+        exponent-within = omega (arith, exponent-le x m, s .settled .period-exponent);
+        below = s .settled .below;
+        exactly =
+            λ i. (
+              λ a. matches (b .isometric) settled-places (s .settled) i .0 a .places,
+              λ a. matches (b .isometric) settled-places (s .settled) i .1 (record { places = a }),
+            );
+        stops = λ l. u l .none;
+      }
+
+  -- all places settled
+  pub search-done : limit ≤ m → Settles x y limit m k e
+  search-done l = handed (λ f. absurd (omega arith))
+
+  module _ (l : m < limit) where
+    pub exponent-below : e < 64
+    exponent-below = omega (arith, exponent-le x m, s .settled .period-exponent, b .within, b .word)
+
+    -- the period in hand is the period, and one period further on the index still fits
+    period-is : period ≡ 2 ^ e
+    period-is = s .power ∙ mod-eq-of-lt (pow-lt exponent-below)
+
+    pub ahead-fits : k + period < 2 ^ 64
+    ahead-fits =
+        omega (arith, period-is, s .settled .below, pow-mono {i = suc e} {j = 64} exponent-below)
+
+    module _ {next returning agreeing : ℕ} (ahead : Agree n next (x (k + 2 ^ e)))
+        (dr : FirstDifference next held returning) (da : FirstDifference held y agreeing) where
+      next-place : suc m ≤ n
+      next-place = le-trans l (b .within)
+
+      -- both differences are at place m or above it
+      returning-from : m ≤ returning
+      returning-from =
+          places-reach ahead (s .stands) dr settled-places (b .word)
+          (period-law (b .isometric) m settled-places (s .settled .period-exponent) .law (k + 2 ^ e) k .1 (agree-next e k))
+
+      agreeing-from : m ≤ agreeing
+      agreeing-from = places-reach (s .stands) (agree-of-eq n refl) da settled-places (b .word) (s .settled .agrees)
+
+      stays : (returning ≡ m → ⊥) → Agree (suc m) (x (k + 2 ^ e)) (x k)
+      stays d = places-agree ahead (s .stands) dr next-place (omega (arith, returning-from))
+
+      doubles : returning ≡ m → Agree (suc m) (x (k + 2 ^ e)) (x k) → ⊥
+      doubles d a = omega (arith, places-reach ahead (s .stands) dr next-place (b .word) a)
+
+      agrees : (agreeing ≡ m → ⊥) → Agree (suc m) (x k) y
+      agrees d = places-agree (s .stands) (agree-of-eq n refl) da next-place (omega (arith, agreeing-from))
+
+      differs : agreeing ≡ m → Agree (suc m) (x k) y → ⊥
+      differs d a = omega (arith, places-reach (s .stands) (agree-of-eq n refl) da next-place (b .word) a)
+
+      pub search-stops : (returning ≡ m → ⊥) → agreeing ≡ m → Settles x y limit m k e
+      search-stops r a =
+          handed (λ f. stays-differs (b .isometric) next-place (s .settled) (stays r) (differs a))
+
+      pub search-stays : (returning ≡ m → ⊥) → (agreeing ≡ m → ⊥) → Searching n x y limit held k period e (m + 1)
+      search-stays r a =
+          rw add-one
+          (record {
+            places = l;
+            settled = stays-agrees (b .isometric) next-place (s .settled) (stays r) (agrees a);
+            stands = s .stands;
+            power = s .power;
+          })
+
+      module _ {twice : ℕ} (et : twice ≡ (period + period) % 2 ^ 64) where
+        twice-is : twice ≡ 2 ^ suc e % 2 ^ 64
+        twice-is =
+            et ∙ ap (λ (p : ℕ). p % 2 ^ 64) (let q : period + period ≡ 2 ^ suc e = omega (arith, period-is) in q)
+
+        pub search-doubles : returning ≡ m → (agreeing ≡ m → ⊥) → Searching n x y limit held k twice (e + 1) (m + 1)
+        search-doubles r a =
+            rw (add-one m, add-one e)
+            (record {
+              places = l;
+              settled = doubles-agrees (b .isometric) next-place (s .settled) (doubles r) (agrees a);
+              stands = s .stands;
+              power = twice-is;
+            })
+
+        pub search-ahead : returning ≡ m → agreeing ≡ m → Searching n x y limit next (k + period) twice (e + 1) (m + 1)
+        search-ahead r a =
+            rw (add-one m, add-one e, period-is)
+            (record {
+              places = l;
+              settled = doubles-differs (b .isometric) next-place (s .settled) (doubles r) (differs a);
+              stands = ahead;
+              power = twice-is;
+            })
+
+-- What is read off: the least index of y or that it has none, and the orbit.
+module _ {n : ℕ} {x : ℕ → ℕ} {y p k e : ℕ} (s : Settles x y n p k e) where
+  pub settles-never : p < n → Absent x y
+  settles-never l = record { none = λ i q. s .stops l i (agree-of-eq (suc p) q) }
+
+  module _ (l : n ≤ p) where
+    whole : p ≡ n
+    whole = le-antisymm (s .within) l
+
+    exactly : (i : ℕ) → Agree n (x i) y ↔ Congruent (2 ^ e) i k
+    exactly = subst (λ (m : ℕ). (i : ℕ) → Agree m (x i) y ↔ Congruent (2 ^ e) i k) whole (s .exactly)
+
+    pub settles-found : Reduced n x → y < 2 ^ n → Located x y (2 ^ n) k
+    settles-found red h =
+        record {
+          below = lt-of-lt-of-le (s .below) (pow-mono (le-trans (s .exponent-within) (s .within)));
+          yields = agree-below (exactly k .1 (same-refl (2 ^ e) k)) (red .below k) h;
+          first = λ i q. agree-least (record { places = exactly i .0 (agree-of-eq n q) }) (s .below);
+        }
+
+-- the orbit, where the first element itself was sought: all places are settled, and x is back at it exactly at the multiples
+-- of 2 ^ e
+pub settles-orbit : {n : ℕ} {x : ℕ → ℕ} → Reduced n x → {y p k e : ℕ} → x 0 ≡ y → Settles x y n p k e →
+    (e ≤ n) × IsOrbit x 0 (2 ^ e)
+settles-orbit {n} {x} red {y} {p} {k} {e} first s = (
+  le-trans (s .exponent-within) (s .within),
+  return-orbit (pow-pos e) λ i. (
+    λ q. same-trans (exactly s all i .0 (agree-of-eq n (q ∙ first))) (same-sym start),
+    λ c. reduced-eq red i 0 (agree-trans (exactly s all i .1 (same-trans c start)) (agree-of-eq n (sym first))),
+  ),
+)
+  where
+    all : n ≤ p
+    all = elim (decLe n p) [ yes l ↦ l | no f ↦ absurd (settles-never s (lt-of-not-le f) .none 0 first) ]
+
+    start : Congruent (2 ^ e) 0 k
+    start = exactly s all 0 .0 (agree-of-eq n first)

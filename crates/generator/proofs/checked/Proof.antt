@@ -2,9 +2,9 @@
 use borrow.Author.Needs.{needs}
 use mathlib.Core.Path.{_≡_, sym, _∙_}
 use mathlib.Core.Bool.{false}
-use Prim.Native.Nat.{_^_}
 use lib.Dec.{leb}
 use borrow.Author.Tests.{eq-eqb, ne-eqb, lt-ltb, le-ltb}
+use Rattle.generator.specs.Recurrence.{modulus}
 use Rattle.generator.specs.Refusals.{refusalOf, widthRefused}
 use Rattle.generator.proofs.checked.Statement.{statement}
 use Rattle.generator.proofs.checked.Tie as tie
@@ -21,40 +21,40 @@ returns-2 c = simp (ne-eqb _ _ (c .before .if1 .left), lt-ltb _ _ (c .if2 .taken
 width-in : (c : tie.Else2) → widthRefused (c .before .before .args .g .width) ≡ false
 width-in c = simp (ne-eqb _ _ (c .before .if1 .left), le-ltb _ _ (c .if2 .left))
 
-multiplier-in : (c : tie.Else3) → leb (2 ^ c .before .before .before .before .args .g .width) (c .before .before .before .before .args .g .multiplier) ≡ false
-multiplier-in c = sym (c .before .exceeds .ensures) ∙ c .if3 .left
+multiplier-in : (c : tie.Else3) → leb (modulus (c .before .before .before .before .args .g)) (c .before .before .before .before .args .g .multiplier) ≡ false
+multiplier-in c = sym (c .before .exceeds-modulus .ensures) ∙ c .if3 .left
 
-increment-in : (c : tie.Else4) → leb (2 ^ c .before .before .before .before .before .before .args .g .width) (c .before .before .before .before .before .before .args .g .increment) ≡ false
-increment-in c = sym (c .before .exceeds2 .ensures) ∙ c .if4 .left
+increment-in : (c : tie.Else4) → leb (modulus (c .before .before .before .before .before .before .args .g)) (c .before .before .before .before .before .before .args .g .increment) ≡ false
+increment-in c = sym (c .before .exceeds-modulus2 .ensures) ∙ c .if4 .left
 
-exceeds-requires : tie.Need-exceeds-requires
-exceeds-requires c κs = search needs
+exceeds-modulus-requires : tie.Need-exceeds-modulus-requires
+exceeds-modulus-requires c κs = search needs
 
 returns-3 : tie.Need-returns-3
 unfolding refusalOf
 returns-3 c =
-    simp (width-in (c .before .before), sym (c .before .exceeds .ensures) ∙ c .if3 .taken)
+    simp (width-in (c .before .before), sym (c .before .exceeds-modulus .ensures) ∙ c .if3 .taken)
 
-exceeds-requires-2 : tie.Need-exceeds-requires-2
-exceeds-requires-2 c κs = search needs
+exceeds-modulus-requires-2 : tie.Need-exceeds-modulus-requires-2
+exceeds-modulus-requires-2 c κs = search needs
 
 returns-4 : tie.Need-returns-4
 unfolding refusalOf
 returns-4 c =
-    simp (width-in (c .before .before .before .before), multiplier-in (c .before .before), sym (c .before .exceeds2 .ensures) ∙ c .if4 .taken)
+    simp (width-in (c .before .before .before .before), multiplier-in (c .before .before), sym (c .before .exceeds-modulus2 .ensures) ∙ c .if4 .taken)
 
-exceeds-requires-3 : tie.Need-exceeds-requires-3
-exceeds-requires-3 c κs = search needs
+exceeds-modulus-requires-3 : tie.Need-exceeds-modulus-requires-3
+exceeds-modulus-requires-3 c κs = search needs
 
 returns-5 : tie.Need-returns-5
 unfolding refusalOf
 returns-5 c =
-    simp (width-in (c .before .before .before .before .before .before), multiplier-in (c .before .before .before .before), increment-in (c .before .before), sym (c .before .exceeds3 .ensures) ∙ c .if5 .taken)
+    simp (width-in (c .before .before .before .before .before .before), multiplier-in (c .before .before .before .before), increment-in (c .before .before), sym (c .before .exceeds-modulus3 .ensures) ∙ c .if5 .taken)
 
 returns-6 : tie.Need-returns-6
 unfolding refusalOf
 returns-6 c =
-    simp (width-in (c .before .before .before .before .before .before), multiplier-in (c .before .before .before .before), increment-in (c .before .before), sym (c .before .exceeds3 .ensures) ∙ c .if5 .left)
+    simp (width-in (c .before .before .before .before .before .before), multiplier-in (c .before .before .before .before), increment-in (c .before .before), sym (c .before .exceeds-modulus3 .ensures) ∙ c .if5 .left)
 
 pub checked-spec : {M : Type 1} → statement M
 checked-spec =
@@ -62,10 +62,10 @@ checked-spec =
     (tie.spec
     returns
     returns-2
-    exceeds-requires
+    exceeds-modulus-requires
     returns-3
-    exceeds-requires-2
+    exceeds-modulus-requires-2
     returns-4
-    exceeds-requires-3
+    exceeds-modulus-requires-3
     returns-5
     returns-6)

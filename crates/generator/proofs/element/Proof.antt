@@ -1,6 +1,5 @@
 -- `generator::element` meets its contract.
 use borrow.Author.Needs.{needs}
-use Rattle.generator.proofs.Refusals.{valid}
 use Rattle.generator.proofs.Replies.{number-accepted, number-refused, value-refused, value-given}
 use Rattle.generator.proofs.element.Statement.{statement}
 use Rattle.generator.proofs.element.Tie as tie
@@ -19,17 +18,16 @@ returns c =
 enum-told : tie.Need-enum-told
 enum-told c = search needs
 
-element-at-requires : tie.Need-element-at-requires
-element-at-requires c κs =
-    valid _ (number-accepted (c .before .before .checked .ensures) (c .enum-told .given .1))
+value-of-requires : tie.Need-value-of-requires
+value-of-requires c κs = number-accepted (c .before .before .checked .ensures) (c .enum-told .given .1)
 
 returns-2 : tie.Need-returns-2
 returns-2 c =
     value-given _
     (number-accepted (c .before .before .before .checked .ensures) (c .before .enum-told .given .1))
-    (c .element-at .ensures)
+    (c .value-of .ensures)
 
 pub element-spec : {M : Type 1} → statement M
 element-spec =
     tie.close
-    (tie.spec checked-requires enum-known-verdict returns enum-told element-at-requires returns-2)
+    (tie.spec checked-requires enum-known-verdict returns enum-told value-of-requires returns-2)

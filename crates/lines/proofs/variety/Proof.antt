@@ -1,9 +1,10 @@
--- `lines::variety` meets its contract: a period of 2^64 is above every count, and any other fits a word.
+-- `lines::variety` meets its contract: the period less 1 fits a word, and where it is below the count so does the period.
 use borrow.Author.Needs.{needs}
 use mathlib.Core.Path.{_≡_}
-use Rattle.generator.proofs.Replies.{number-accepted, number-refused, value-refused, value-given}
+use native.Mathlib.Omega.{arith}
+use Rattle.generator.proofs.Replies.{number-accepted, number-refused}
 use Rattle.lines.specs.Run.{runRefusal}
-use Rattle.lines.proofs.Runs.{valid-run, exponent-small, variety-whole, variety-count, variety-period}
+use Rattle.lines.proofs.Runs.{valid-run, variety-refused, variety-given}
 use Rattle.lines.proofs.variety.Statement.{statement}
 use Rattle.lines.proofs.variety.Tie as tie
 
@@ -16,7 +17,7 @@ enum-known-verdict c = search needs
 returns : tie.Need-returns
 returns c =
     let verdict = c .before .verdict .given in
-    value-refused (verdict .0 .0) _ (number-refused (c .before .before .before .checked .ensures) (verdict .1))
+    variety-refused _ (verdict .0 .0) (number-refused (c .before .before .before .checked .ensures) (verdict .1))
 
 enum-told : tie.Need-enum-told
 enum-told c = search needs
@@ -25,31 +26,19 @@ enum-told c = search needs
 accepted : (c : tie.After-enum-told) → runRefusal (c .before .before .before .args .run) ≡ 0
 accepted c = number-accepted (c .before .before .checked .ensures) (c .enum-told .given .1)
 
-period-exponent-requires : tie.Need-period-exponent-requires
-period-exponent-requires c κs = valid-run _ (accepted c) .generator
+cycle-of-requires : tie.Need-cycle-of-requires
+cycle-of-requires c κs = valid-run _ (accepted c) .generator
+
+add-period : tie.Need-add-period
+add-period c = search needs
 
 returns-2 : tie.Need-returns-2
 returns-2 c =
-    let a = c .before .before in
-    value-given _ (accepted a) (variety-whole (valid-run _ (accepted a)) (c .before .period-exponent .ensures) (c .if1 .taken))
-
-shl-period : tie.Need-shl-period
-shl-period c =
-    exponent-small (valid-run _ (accepted (c .before .before))) (c .before .period-exponent .ensures) (c .if1 .left)
+    variety-given _ (accepted (c .before .before)) (c .before .cycle-of .ensures) (omega (arith, c .if1 .taken))
 
 returns-3 : tie.Need-returns-3
 returns-3 c =
-    let b = c .before .before in
-    let a = b .before .before in
-    value-given _ (accepted a)
-    (variety-count (valid-run _ (accepted a)) (b .before .period-exponent .ensures) (b .if1 .left) (c .if2 .taken))
-
-returns-4 : tie.Need-returns-4
-returns-4 c =
-    let b = c .before .before in
-    let a = b .before .before in
-    value-given _ (accepted a)
-    (variety-period (valid-run _ (accepted a)) (b .before .period-exponent .ensures) (b .if1 .left) (c .if2 .left))
+    variety-given _ (accepted (c .before .before)) (c .before .cycle-of .ensures) (omega (arith, c .if1 .left))
 
 pub variety-spec : {M : Type 1} → statement M
 variety-spec =
@@ -59,8 +48,7 @@ variety-spec =
     enum-known-verdict
     returns
     enum-told
-    period-exponent-requires
+    cycle-of-requires
+    add-period
     returns-2
-    shl-period
-    returns-3
-    returns-4)
+    returns-3)

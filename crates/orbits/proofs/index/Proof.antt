@@ -3,7 +3,6 @@ use borrow.Author.Needs.{needs}
 use mathlib.Core.Path.{_≡_, subst}
 use Rattle.generator.specs.Refusals.{refusalOf}
 use Rattle.orbits.specs.Index.{PositionIs}
-use Rattle.generator.proofs.Refusals.{valid}
 use Rattle.generator.proofs.Replies.{number-accepted, number-refused}
 use Rattle.orbits.proofs.Indices.{index-refused, index-found, index-never}
 use Rattle.orbits.proofs.index.Statement.{statement}
@@ -28,7 +27,7 @@ accepted : (c : tie.After-enum-told) → refusalOf (c .before .before .before .a
 accepted c = number-accepted (c .before .before .checked .ensures) (c .enum-told .given .1)
 
 position-of-requires : tie.Need-position-of-requires
-position-of-requires c κs = valid _ (accepted c)
+position-of-requires c κs = accepted c
 
 enum-known-position : tie.Need-enum-known-position
 enum-known-position c = search needs

@@ -3,9 +3,9 @@ use borrow.Author.Needs.{needs}
 use mathlib.Core.Path.{_≡_}
 use native.Mathlib.Omega.{arith}
 use Rattle.generator.specs.Refusals.{refusalOf}
-use Rattle.generator.proofs.Refusals.{valid}
+use Rattle.generator.proofs.Refusals.{linear}
 use Rattle.generator.proofs.Replies.{number-accepted, number-refused}
-use Rattle.orbits.proofs.Orbits.{orbit-refused, orbit-given}
+use Rattle.orbits.proofs.Orbits.{orbit-refused, orbit-even, orbit-odd}
 use Rattle.orbits.proofs.orbit.Statement.{statement}
 use Rattle.orbits.proofs.orbit.Tie as tie
 
@@ -28,20 +28,18 @@ accepted : (c : tie.After-enum-told) → refusalOf (c .before .before .before .a
 accepted c = number-accepted (c .before .before .checked .ensures) (c .enum-told .given .1)
 
 preperiod-requires : tie.Need-preperiod-requires
-preperiod-requires c κs = (valid _ (accepted (c .before .before)), c .if1 .taken)
+preperiod-requires c κs = (linear _ (accepted (c .before .before)), c .if1 .taken)
 
 returns-2 : tie.Need-returns-2
 returns-2 c =
-    let o = c .preperiod .ensures in
-    orbit-given _ _ 0 (accepted (c .before .before .before)) (o .0) (omega arith) (o .1)
+    orbit-even _ (accepted (c .before .before .before)) (c .before .if1 .taken) (c .preperiod .ensures)
 
 exponent-requires : tie.Need-exponent-requires
-exponent-requires c κs = (valid _ (accepted (c .before .before)), omega arith)
+exponent-requires c κs = (linear _ (accepted (c .before .before)), omega arith)
 
 returns-3 : tie.Need-returns-3
 returns-3 c =
-    let o = c .exponent .ensures in
-    orbit-given _ 0 _ (accepted (c .before .before .before)) (omega arith) (o .0) (o .1)
+    orbit-odd _ (accepted (c .before .before .before)) (omega (arith, c .before .if1 .left)) (c .exponent .ensures)
 
 pub orbit-spec : {M : Type 1} → statement M
 orbit-spec =

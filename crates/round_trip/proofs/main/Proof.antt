@@ -2,6 +2,7 @@
 use borrow.Author.Needs.{needs}
 use mathlib.Core.Path.{_≡_, sym, ap, _∙_}
 use borrow.Author.Tests.{eq-eqb}
+use Rattle.generator.specs.Recurrence.{modulus}
 use Rattle.generator.specs.Refusals.{refusalOf}
 use Rattle.generator.proofs.Replies.{number-nonzero}
 use Rattle.lines.specs.declared.Run.{Run}
@@ -29,7 +30,7 @@ enum-told : tie.Need-enum-told
 enum-told c = search needs
 
 expect-requires : tie.Need-expect-requires
-unfolding runRefusal refusalOf
+unfolding runRefusal refusalOf modulus
 expect-requires c κs =
     let refused = c .enum-told .given in
     absurd
@@ -41,7 +42,7 @@ returns c = search needs
 
 -- the run that came back
 back : (c : tie.After-known-told) → acceptedRun (c .before .back .given .0 .0) ≡ acceptedRun written
-unfolding runRefusal refusalOf
+unfolding runRefusal refusalOf modulus
 back c = sym (ap replyOf (c .before .back .given .1)) ∙ c .before .before .before .round-trip .ensures
 
 expect-requires-2 : tie.Need-expect-requires-2

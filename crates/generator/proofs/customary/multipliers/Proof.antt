@@ -1,6 +1,6 @@
 -- `generator::customary::multipliers` meets its contract: the table's rule is one test that antt computes over it.
 use mathlib.Core.Path.{refl}
-use Rattle.generator.specs.Least.{least}
+use Rattle.sequences.specs.Least.{least}
 use Rattle.generator.specs.Customary.{oddPower, customaryOf}
 use Rattle.generator.proofs.OddPowers.{table-rule}
 use Rattle.generator.proofs.customary.multipliers.Statement.{statement}

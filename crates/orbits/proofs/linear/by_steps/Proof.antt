@@ -1,42 +1,38 @@
--- `orbits::search::by_steps` meets its contract: the loop's invariant is `Passing`.
+-- `orbits::linear::by_steps` meets its contract: the loop's invariant is `Passing`.
 use borrow.Author.Needs.{needs}
 use Prim.Native.Nat.{_+_, _-_}
 use native.Mathlib.Omega.{arith}
 use Rattle.orbits.proofs.Indices.{Passing, passing-start, passing-found, passing-next, passing-never}
-use Rattle.orbits.proofs.search.by_steps.Statement.{statement}
-use Rattle.orbits.proofs.search.by_steps.Tie as tie
+use Rattle.orbits.proofs.linear.by_steps.Statement.{statement}
+use Rattle.orbits.proofs.linear.by_steps.Tie as tie
 
 abbrev Inv-loop : tie.InvT-loop
-Inv-loop y n once x₀ i₀ x i =
-    Passing (record { width = n; multiplier = once .factor; increment = once .offset; seed = x₀ }) y x i
+Inv-loop g y n x₀ i₀ x i = Passing g y x i
 
 abbrev μ-loop : tie.MeasureT-loop
-μ-loop y n once x₀ i₀ x i = n + 1 - i
+μ-loop g y n x₀ i₀ x i = n + 1 - i
 
 loop-holds : tie.Need-loop-holds Inv-loop μ-loop
 loop-holds c = passing-start (c .args .g) (c .args .y)
 
 returns : tie.Need-returns Inv-loop μ-loop
-returns c = passing-found (c .before .before .loop .inv) (c .before .loop-test .taken) (c .if1 .taken)
+returns c =
+    let l = c .before .before in
+    passing-found (l .loop .inv) (l .before .pre .0) (c .before .loop-test .taken) (c .if1 .taken)
 
-value-at-requires : tie.Need-value-at-requires Inv-loop μ-loop
-value-at-requires c κs = search needs
-
-low-bits-requires : tie.Need-low-bits-requires Inv-loop μ-loop
-low-bits-requires c κs = let v = c .before .before .before .before .pre .0 in (v .width-low, v .width-high)
+next-requires : tie.Need-next-requires Inv-loop μ-loop
+next-requires c κs = search needs
 
 add-i : tie.Need-add-i Inv-loop μ-loop
-add-i c = omega (arith, c .before .before .before .before .before .pre .0 .width-high)
+add-i c = omega (arith, c .before .before .before .before .pre .0 .width-high)
 
 loop-less : tie.Need-loop-less Inv-loop μ-loop
 loop-less c = search needs
 
 loop-again : tie.Need-loop-again Inv-loop μ-loop
 loop-again c =
-    let v = c .before .before .before .before .before .pre .0 in
-    let d = c .before .before in
-    passing-next (d .before .before .loop .inv) v (d .before .loop-test .taken) (d .if1 .left) (c .before .value-at .ensures)
-    (c .low-bits .ensures)
+    let d = c .before in
+    passing-next (d .before .before .loop .inv) (d .before .loop-test .taken) (d .if1 .left) (c .next .ensures)
 
 returns-2 : tie.Need-returns-2 Inv-loop μ-loop
 returns-2 c = passing-never (c .before .loop .inv) (c .before .before .pre) (c .loop-test .left)
@@ -49,8 +45,7 @@ by-steps-spec =
     μ-loop
     loop-holds
     returns
-    value-at-requires
-    low-bits-requires
+    next-requires
     add-i
     loop-less
     loop-again

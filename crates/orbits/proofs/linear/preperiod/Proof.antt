@@ -1,9 +1,12 @@
--- `orbits::periods::preperiod` meets its contract.
+-- `orbits::linear::preperiod` meets its contract.
 use borrow.Author.Needs.{needs}
 use Rattle.orbits.proofs.Elements.{scaling}
 use Rattle.orbits.proofs.Orbits.{even-orbit, resting-orbit}
-use Rattle.orbits.proofs.periods.preperiod.Statement.{statement}
-use Rattle.orbits.proofs.periods.preperiod.Tie as tie
+use Rattle.orbits.proofs.linear.preperiod.Statement.{statement}
+use Rattle.orbits.proofs.linear.preperiod.Tie as tie
+
+once-requires : tie.Need-once-requires
+once-requires c κs = search needs
 
 value-at-requires : tie.Need-value-at-requires
 value-at-requires c κs = search needs
@@ -17,8 +20,8 @@ alpha-requires c κs = search needs
 returns : tie.Need-returns
 returns c =
     let b = c .before .before .before in
-    resting-orbit (b .before .pre) (c .before .alpha .ensures) (b .value-at .ensures) (c .before .before .first-difference .ensures)
-    (c .if1 .taken)
+    resting-orbit (b .before .before .pre) (c .before .alpha .ensures) (b .before .once .ensures) (b .value-at .ensures)
+    (c .before .before .first-difference .ensures) (c .if1 .taken)
 
 sub-result : tie.Need-sub-result
 sub-result c = search needs
@@ -31,19 +34,20 @@ sub-result-2 c = search needs
 
 div-result : tie.Need-div-result
 div-result c =
-    let pre = c .before .before .before .before .pre in
+    let pre = c .before .before .before .before .before .pre in
     scaling (pre .0) (pre .1) (c .before .alpha .ensures) .positive
 
 returns-2 : tie.Need-returns-2
 returns-2 c =
     let b = c .before .before .before in
-    even-orbit (b .before .pre) (c .before .alpha .ensures) (b .value-at .ensures) (c .before .before .first-difference .ensures)
-    (c .if1 .left)
+    even-orbit (b .before .before .pre) (c .before .alpha .ensures) (b .before .once .ensures) (b .value-at .ensures)
+    (c .before .before .first-difference .ensures) (c .if1 .left)
 
 pub preperiod-spec : {M : Type 1} → statement M
 preperiod-spec =
     tie.close
     (tie.spec
+    once-requires
     value-at-requires
     first-difference-requires
     alpha-requires

@@ -1,0 +1,36 @@
+// One door to the kinds of generator, for the crates above: a generator has to be accepted, and nothing else is asked of it.
+ghost use mathlib.Core.Path.{_≡_};
+ghost use Rattle.generator.specs.Recurrence.{modulus, element};
+ghost use Rattle.generator.specs.Refusals.{refusalOf};
+ghost use Rattle.orbits.specs.Index.{PositionIs};
+ghost use Rattle.orbits.specs.Orbit.{IsCycle};
+use crate::linear;
+use generator::Generator;
+
+// Where a number stands in a sequence.
+pub enum Position {
+    At(u64),
+    Never,
+}
+
+// The orbit: its preperiod, and its period less 1, so that 2^64 fits.
+pub struct Cycle {
+    pub preperiod: u64,
+    pub last: u64,
+}
+
+// The least index that yields y, if one does.
+pub fn position_of(g: Generator, y: u64) -> Position
+    requires { ⌜ refusalOf g ≡ 0 ⌝ }
+    ensures { λ r. ⌜ PositionIs (element g) y (modulus g) r ⌝ }
+{
+    linear::position(g, y)
+}
+
+// The orbit of a generator.
+pub fn cycle_of(g: Generator) -> Cycle
+    requires { ⌜ refusalOf g ≡ 0 ⌝ }
+    ensures { λ r. ⌜ IsCycle g r ⌝ }
+{
+    linear::cycle(g)
+}

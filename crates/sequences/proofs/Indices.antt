@@ -1,0 +1,54 @@
+-- The definition of the index finds what it means: the least index of y, if it lies below the bound; the bound, if y has
+-- none. Either way demand 3 holds.
+use mathlib.Core.Path.{_≡_, refl}
+use Prim.Native.Nat.{ℕ, _≤_, _<_}
+use native.Mathlib.Nat.{le-refl, le-of-lt}
+use native.Mathlib.Omega.{arith}
+use lib.Dec.{eqb}
+use borrow.Author.Tests.{eq-eqb, ne-eqb, eqb-false}
+use Rattle.sequences.specs.Index.{indexOf, Demand3, Located, Absent}
+use Rattle.sequences.proofs.Least.{least-least, least-unique}
+
+module _ {x : ℕ → ℕ} {y bound k : ℕ} (h : Located x y bound k) where
+  pub located-is : indexOf x bound y ≡ k
+  unfolding indexOf
+  located-is =
+      least-unique
+      (record {
+        within = le-of-lt (h .below);
+        holds = λ l. eq-eqb (x k) y (h .yields);
+        first = λ j l. ne-eqb (x j) y (λ e. omega (arith, h .first j e));
+      })
+
+  pub located-demand : Demand3 x y 1 k
+  located-demand =
+      record {
+        yields = λ f. h .yields;
+        others-higher = λ f i e d. omega (arith, h .first i e);
+        never = (λ f. absurd (omega arith), λ none. absurd (none k (h .yields)));
+      }
+
+module _ {x : ℕ → ℕ} {y : ℕ} (h : Absent x y) where
+  pub absent-is : (bound : ℕ) → indexOf x bound y ≡ bound
+  unfolding indexOf
+  absent-is bound =
+      least-unique
+      (record {
+        within = le-refl bound;
+        holds = λ l. absurd (omega arith);
+        first = λ j l. ne-eqb (x j) y (h .none j);
+      })
+
+  pub absent-demand : Demand3 x y 0 0
+  absent-demand =
+      record {
+        yields = λ f. absurd (omega arith);
+        others-higher = λ f. absurd (omega arith);
+        never = (λ f. h .none, λ none. refl);
+      }
+
+-- where the definition gives the bound, no index below it yields y
+pub bound-none : (x : ℕ → ℕ) (y bound : ℕ) → indexOf x bound y ≡ bound → (i : ℕ) → i < bound → x i ≡ y → ⊥
+unfolding indexOf
+bound-none x y bound e i l =
+    eqb-false (x i) y (least-least (λ j. eqb (x j) y) bound .first i (omega arith))

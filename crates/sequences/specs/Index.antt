@@ -1,0 +1,26 @@
+-- The least index at which a sequence yields a number, or never.
+use mathlib.Core.Path.{_≡_}
+use mathlib.Core.Logic.{_↔_}
+use Prim.Native.Nat.{ℕ, _≤_, _<_}
+use lib.Dec.{eqb}
+use Rattle.sequences.specs.Least.{least}
+
+-- The least index below the bound at which x yields y; the bound if there is none.
+unfoldable pub indexOf : (ℕ → ℕ) → ℕ → ℕ → ℕ
+indexOf x bound y = least (λ i. eqb (x i) y) bound
+
+-- Demand 3 of the index call, in its own words, for indices without end: the reported index yields the number; every
+-- other index that yields it is higher; never comes exactly when no index, however large, yields it.
+pub record Demand3 (x : ℕ → ℕ) (y found index : ℕ) : Type 0 where
+  pub yields : found ≡ 1 → x index ≡ y
+  pub others-higher : found ≡ 1 → (i : ℕ) → x i ≡ y → (i ≡ index → ⊥) → index < i
+  pub never : (found ≡ 0) ↔ ((i : ℕ) → x i ≡ y → ⊥)
+
+-- For the functions behind the call: k is the least index of y and lies below the bound; y has no index.
+pub record Located (x : ℕ → ℕ) (y bound k : ℕ) : Type 0 where
+  pub below : k < bound
+  pub yields : x k ≡ y
+  pub first : (i : ℕ) → x i ≡ y → k ≤ i
+
+pub record Absent (x : ℕ → ℕ) (y : ℕ) : Type 0 where
+  pub none : (i : ℕ) → x i ≡ y → ⊥

@@ -4,6 +4,7 @@ pub mod calls;
 pub mod formula;
 pub mod library;
 pub mod model;
+pub mod peers;
 pub mod random;
 pub mod same_method;
 pub mod samples;

@@ -26,6 +26,12 @@ fn increment_for(difference: u64, multiplier: u64, seed: u64) -> u64 {
     difference.wrapping_add(seed).wrapping_sub(multiplier.wrapping_mul(seed))
 }
 
+/// A generator with the longest period of its width.
+pub fn full_period_generator(r: &mut Random, width: u64) -> Generator {
+    let multiplier = r.bits(width) & !3 | 1;
+    Generator { width, multiplier, increment: r.bits(width) | 1, seed: r.bits(width) }
+}
+
 /// An accepted generator. The difference of its first elements often ends in many zero bits,
 /// which shortens the cycle.
 pub fn accepted_generator(r: &mut Random, width: u64) -> Generator {

@@ -1,16 +1,21 @@
-//! Times the proved library against plain Rust of the same method, in one run, as markdown tables:
+//! Times the proved library against plain Rust of the same method and against the peers' way, in one
+//! run, as markdown tables:
 //!
-//!     cargo run --release --bin bench
+//!     cargo run --release --bin bench [-- [--plain] [ROWS]]
 //!
 //! Both sides get the same inputs in turn, round by round; a ratio is the median over the rounds.
-//! Buffers are not cleared first.
+//! Buffers are not cleared first. With `--plain` there are no headings, and tabs between the fields;
+//! with ROWS only the rows that begin with this text, as `lookup` or `index, distance`.
 
+use std::env;
+use std::fmt::Display;
 use std::hint::black_box;
 use std::time::{Duration, Instant};
 
 use noonpasture_differential::calls::*;
 use noonpasture_differential::random::Random;
-use noonpasture_differential::{library, same_method};
+use noonpasture_differential::samples::full_period_generator;
+use noonpasture_differential::{library, peers, same_method};
 
 const SEED: u64 = 20_260_102;
 const ROUNDS: usize = 101;
@@ -21,7 +26,7 @@ const INPUTS: usize = 1000;
 /// Medians over the rounds, in nanoseconds for one call.
 struct Timing {
     library: f64,
-    rust: f64,
+    other: f64,
     ratio: f64,
 }
 
@@ -44,28 +49,46 @@ fn timed<I: Copy, R>(inputs: &[I], repeats: usize, call: &mut impl FnMut(I) -> R
 fn measured<I: Copy, R: PartialEq>(
     inputs: &[I],
     mut library: impl FnMut(I) -> R,
-    mut rust: impl FnMut(I) -> R,
+    mut other: impl FnMut(I) -> R,
 ) -> Timing {
-    assert!(inputs.iter().all(|&input| library(input) == rust(input)), "the two sides differ");
+    assert!(inputs.iter().all(|&input| library(input) == other(input)), "the two sides differ");
     let once = timed(inputs, 1, &mut library) * inputs.len() as f64;
     let repeats = 1 + (ROUND.as_nanos() as f64 / once) as usize;
-    let round = |_| (timed(inputs, repeats, &mut library), timed(inputs, repeats, &mut rust));
+    let round = |_| (timed(inputs, repeats, &mut library), timed(inputs, repeats, &mut other));
     let rounds: Vec<(f64, f64)> = (0..ROUNDS).map(round).collect();
     Timing {
         library: median(rounds.iter().map(|(library, _)| *library).collect()),
-        rust: median(rounds.iter().map(|(_, rust)| *rust).collect()),
-        ratio: median(rounds.iter().map(|(library, rust)| library / rust).collect()),
+        other: median(rounds.iter().map(|(_, other)| *other).collect()),
+        ratio: median(rounds.iter().map(|(library, other)| library / other).collect()),
     }
 }
 
-fn heading(first: &str, second: &str) {
-    println!("\n| {first} | {second} | library ns | Rust ns | ratio |");
-    println!("|---|---|--:|--:|--:|");
+/// How the tables are printed, and how the rows begin that are wanted.
+struct Output {
+    plain: bool,
+    rows: String,
 }
 
-fn row(first: &str, second: impl std::fmt::Display, timing: Timing) {
-    let Timing { library, rust, ratio } = timing;
-    println!("| {first} | {second} | {library:.1} | {rust:.1} | {ratio:.2} |");
+impl Output {
+    fn heading(&self, table: &str, other: &str) {
+        if !self.plain {
+            println!("\n| {table} | input | library ns | {other} ns | ratio |");
+            println!("|---|---|--:|--:|--:|");
+        }
+    }
+
+    fn row(&self, call: &str, input: impl Display, timing: impl FnOnce() -> Timing) {
+        if !format!("{call} {input}").starts_with(&self.rows) {
+            return;
+        }
+        let Timing { library, other, ratio } = timing();
+        let fields = format!("{call}\t{input}\t{library:.1}\t{other:.1}\t{ratio:.2}");
+        if self.plain {
+            println!("{fields}");
+        } else {
+            println!("| {} |", fields.replace('\t', " | "));
+        }
+    }
 }
 
 // Inputs.
@@ -74,10 +97,8 @@ fn several<T>(make: impl FnMut(usize) -> T) -> Vec<T> {
     (0..INPUTS).map(make).collect()
 }
 
-/// A generator with the longest cycle of its width.
-fn full_cycle(r: &mut Random, width: u64) -> Generator {
-    let multiplier = r.bits(width) & !3 | 1;
-    Generator { width, multiplier, increment: r.bits(width) | 1, seed: r.bits(width) }
+fn wide_generator(r: &mut Random) -> Generator {
+    full_period_generator(r, 64)
 }
 
 /// A generator of which element 1 and element 0 first differ in this place, and a number that
@@ -90,7 +111,7 @@ fn never_at(r: &mut Random, place: u64) -> (Generator, u64) {
 }
 
 fn wide_run(r: &mut Random) -> Run {
-    Run { generator: full_cycle(r, 64), first: r.word() / 2, count: 1 + r.below(1000) }
+    Run { generator: wide_generator(r), first: r.word() / 2, count: 1 + r.below(1000) }
 }
 
 /// Lines of wide runs, as many as fit, and the last run.
@@ -118,6 +139,22 @@ fn index(inputs: &[(Generator, u64)]) -> Timing {
     measured(inputs, |(g, y)| library::index(g, y), |(g, y)| same_method::index(g, y))
 }
 
+fn element_and_advance(inputs: &[(Generator, u64)]) -> Timing {
+    measured(
+        inputs,
+        |(g, i)| library::element(g, i).value,
+        |(g, i)| peers::advance(g.multiplier, g.increment, g.seed, i),
+    )
+}
+
+fn index_and_distance(inputs: &[(Generator, u64)]) -> Timing {
+    measured(
+        inputs,
+        |(g, y)| library::index(g, y).index,
+        |(g, y)| peers::distance(g.multiplier, g.increment, g.seed, y),
+    )
+}
+
 fn lookup(inputs: &[(Vec<u8>, u64)]) -> Timing {
     let inputs: Vec<(&[u8], u64)> = inputs.iter().map(|(archive, y)| (archive.as_slice(), *y)).collect();
     measured(
@@ -137,43 +174,59 @@ fn write_line(runs: &[Run]) -> Timing {
     measured(runs, |run| library::write_line(run, &mut ours), |run| same_method::write_line(run, &mut theirs))
 }
 
-fn calls(r: &mut Random) {
-    heading("call", "input");
-    row("element", "index near 2^64", element(&several(|k| (full_cycle(r, 64), u64::MAX - k as u64))));
-    row("element", "index near 2^20", element(&several(|k| (full_cycle(r, 64), (1 << 20) + k as u64))));
-    row("index", "width 64, found", index(&several(|_| (full_cycle(r, 64), r.word()))));
-    row("index", "width 64, never, seen at the lowest place", index(&several(|_| never_at(r, 1))));
-    row("index", "width 64, never, seen at place 62", index(&several(|_| never_at(r, 63))));
+fn calls(out: &Output, r: &mut Random) {
+    out.heading("call", "Rust");
+    out.row("element", "index near 2^64", || element(&several(|k| (wide_generator(r), u64::MAX - k as u64))));
+    out.row("element", "index near 2^20", || {
+        element(&several(|k| (wide_generator(r), (1 << 20) + k as u64)))
+    });
+    out.row("index", "width 64, found", || index(&several(|_| (wide_generator(r), r.word()))));
+    out.row("index", "width 64, never, seen at the lowest place", || index(&several(|_| never_at(r, 1))));
+    out.row("index", "width 64, never, seen at place 62", || index(&several(|_| never_at(r, 63))));
     let runs = several(|_| wide_run(r));
     let lines: Vec<Vec<u8>> = runs.iter().map(Run::line).collect();
-    row("read_line", "about 95 bytes", read_line(&lines));
-    row("write_line", "about 95 bytes", write_line(&runs));
+    out.row("read_line", "about 95 bytes", || read_line(&lines));
+    out.row("write_line", "about 95 bytes", || write_line(&runs));
     let (bytes, last) = archive(r, ARCHIVE_LIMIT);
     let shown = same_method::element(last.generator, last.first).value;
     let size = bytes.len();
-    row("lookup", format!("{size} bytes, found in the last line"), lookup(&[(bytes.clone(), shown)]));
-    row("lookup", format!("{size} bytes, none"), lookup(&[(bytes, r.word())]));
+    let found_last = [(bytes.clone(), shown)];
+    out.row("lookup", format!("{size} bytes, found in the last line"), || lookup(&found_last));
+    out.row("lookup", format!("{size} bytes, none"), || lookup(&[(bytes, r.word())]));
 }
 
-fn growth(r: &mut Random) {
-    heading("growth", "bits of the index");
+fn peers_way(out: &Output, r: &mut Random) {
+    out.heading("peers", "peer");
+    let inputs = several(|_| (wide_generator(r), r.word()));
+    out.row("element, advance", "width 64, any index", || element_and_advance(&inputs));
+    out.row("index, distance", "width 64, any number", || index_and_distance(&inputs));
+}
+
+fn growth(out: &Output, r: &mut Random) {
+    out.heading("growth", "Rust");
     for bits in (8..=64).step_by(8) {
-        let inputs = several(|_| (full_cycle(r, 64), 1 << (bits - 1) | r.bits(bits)));
-        row("element", bits, element(&inputs));
+        out.row("element", format!("index of {bits} bits"), || {
+            element(&several(|_| (wide_generator(r), 1 << (bits - 1) | r.bits(bits))))
+        });
     }
-    heading("growth", "width");
     for width in (8..=64).step_by(8) {
-        row("index", width, index(&several(|_| (full_cycle(r, width), r.bits(width)))));
+        out.row("index", format!("width {width}"), || {
+            index(&several(|_| (full_period_generator(r, width), r.bits(width))))
+        });
     }
-    heading("growth", "bytes of the archive");
     for length in [1 << 10, 1 << 12, 1 << 14, ARCHIVE_LIMIT] {
-        let inputs: Vec<_> = (0..ARCHIVE_LIMIT / length).map(|_| (archive(r, length).0, r.word())).collect();
-        row("lookup, none", format!("up to {length}"), lookup(&inputs));
+        out.row("lookup", format!("up to {length} bytes, none"), || {
+            let one = |_| (archive(r, length).0, r.word());
+            lookup(&(0..ARCHIVE_LIMIT / length).map(one).collect::<Vec<_>>())
+        });
     }
 }
 
 fn main() {
+    let (flags, words): (Vec<_>, Vec<_>) = env::args().skip(1).partition(|word| word == "--plain");
+    let out = Output { plain: !flags.is_empty(), rows: words.join(" ") };
     let mut r = Random::new(SEED);
-    calls(&mut r);
-    growth(&mut r);
+    calls(&out, &mut r);
+    peers_way(&out, &mut r);
+    growth(&out, &mut r);
 }

@@ -4,8 +4,8 @@
 //!     cargo run --release --bin bench [-- [--plain] [ROWS]]
 //!
 //! Both sides get the same inputs in turn, round by round; a ratio is the median over the rounds.
-//! Buffers are not cleared first. With `--plain` there are no headings, and tabs between the fields;
-//! with ROWS only the rows that begin with this text, as `lookup` or `index, distance`.
+//! Buffers are not cleared first. With `--plain` there are no headings, tabs between the fields and
+//! more digits; with ROWS only the rows that begin with this text, as `lookup` or `index, distance`.
 
 use std::env;
 use std::fmt::Display;
@@ -82,11 +82,10 @@ impl Output {
             return;
         }
         let Timing { library, other, ratio } = timing();
-        let fields = format!("{call}\t{input}\t{library:.1}\t{other:.1}\t{ratio:.2}");
         if self.plain {
-            println!("{fields}");
+            println!("{call}\t{input}\t{library:.2}\t{other:.2}\t{ratio:.4}");
         } else {
-            println!("| {} |", fields.replace('\t', " | "));
+            println!("| {call} | {input} | {library:.1} | {other:.1} | {ratio:.2} |");
         }
     }
 }

@@ -1,17 +1,14 @@
 -- The map of i steps followed by that of j steps is the map of i + j steps, and the map of i steps takes the seed to
--- element i: keeping the low bits at each step or once at the end comes to the same. From any element a map of j steps
--- leads j indices on.
+-- element i: keeping the low bits at each step or once at the end comes to the same.
 use mathlib.Core.Path.{_≡_, refl, sym, ap, _∙_, subst}
-use Prim.Native.Nat.{ℕ, zero, suc, _+_, _*_, _/_, _%_, _^_, _≤_}
+use Prim.Native.Nat.{ℕ, zero, suc, _+_, _*_, _/_, _%_, _^_}
 use native.Mathlib.Nat.{add-zero, add-suc, mod-eq-of-lt}
-use native.Mathlib.Numerals.{add-one}
 use native.Mathlib.Omega.{arith}
 use Rattle.words.proofs.Congruence.{Congruent, same-refl, same-trans, same-regroup, same-result, same-add, same-scale, same-mul, same-lower}
-use Rattle.sequences.specs.Places.{Agree}
 use Rattle.generator.specs.declared.Generator.{Generator}
 use Rattle.generator.specs.declared.linear.Affine.{Affine}
 use Rattle.generator.specs.Recurrence.{step, element}
-use Rattle.generator.specs.Affine.{Linear, onceOf, apply, iterate, Walks, Strides, Composes}
+use Rattle.generator.specs.Affine.{Linear, onceOf, apply, iterate, Walks, Composes}
 use Rattle.generator.proofs.Refusals.{modulus-linear}
 
 -- i steps and then j are i + j
@@ -125,35 +122,3 @@ pub next-once :
 next-once {g} x v e h =
     same-lower (g .width) (v .width-high) (same-result _ (h ∙ ap (λ (f : Affine). apply f x % 2 ^ 64) e)) .same
     ∙ sym (step-linear v x)
-
--- Strides over the elements: one step; a stride twice; what a stride does to a number that stands for an element.
-pub strides-once : {g : Generator} {f : Affine} → Linear g → f ≡ onceOf g → Strides (g .width) (element g) 1 f
-unfolding element
-strides-once {g} {f} v e =
-    record {
-      leads =
-          λ k.
-          ap (λ (f : Affine). apply f (element g k) % 2 ^ g .width) e
-          ∙ sym (same-result _ (step-linear v (element g k)) .same)
-          ∙ ap (λ (i : ℕ). element g i % 2 ^ g .width) (sym (add-one k));
-    }
-
-module _ {n : ℕ} {x : ℕ → ℕ} {j : ℕ} {f : Affine} (l : n ≤ 64) (s : Strides n x j f) where
-  -- a number that stands for element k is led to one that stands for element k + j
-  leads-on : {u v : ℕ} (k : ℕ) → Congruent (2 ^ n) u (x k) → v ≡ apply f u % 2 ^ 64 → Congruent (2 ^ n) v (x (k + j))
-  leads-on k h e =
-      same-trans (same-lower n l (same-result _ e))
-      (same-trans (same-affine (f .factor) (f .offset) h) (record { same = s .leads k }))
-
-  pub strides-value : {u v : ℕ} (k : ℕ) → Agree n u (x k) → v ≡ apply f u % 2 ^ 64 → Agree n v (x (k + j))
-  strides-value k h e = record { places = leads-on k (h .places) e }
-
-  pub strides-twice : {r : Affine} → Composes f f r → Strides n x (j + j) r
-  strides-twice c =
-      record {
-        leads =
-            λ k.
-            same-trans (same-lower n l (record { same = c .composes (x k) }))
-            (same-trans (same-affine (f .factor) (f .offset) (record { same = s .leads k }))
-            (record { same = s .leads (k + j) ∙ ap (λ (i : ℕ). x i % 2 ^ n) (let q : k + j + j ≡ k + (j + j) = omega arith in q) })) .same;
-      }

@@ -29,10 +29,6 @@ iterate a c (suc i) x = a * iterate a c i x + c
 pub record Walks (a c i : ℕ) (f : Affine) : Type 0 where
   pub walks : (x : ℕ) → apply f x % 2 ^ 64 ≡ iterate a c i x % 2 ^ 64
 
--- f leads from each element to the one j indices further on, in the low n places.
-pub record Strides (n : ℕ) (x : ℕ → ℕ) (j : ℕ) (f : Affine) : Type 0 where
-  pub leads : (k : ℕ) → apply f (x k) % 2 ^ n ≡ x (k + j) % 2 ^ n
-
 -- r is `first` followed by `second`.
 pub record Composes (first second r : Affine) : Type 0 where
   pub composes : (x : ℕ) → apply r x % 2 ^ 64 ≡ apply second (apply first x) % 2 ^ 64

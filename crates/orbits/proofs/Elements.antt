@@ -5,6 +5,7 @@ use mathlib.Core.Logic.{_↔_, Iff·rfl, ⊎-elim, by-cases}
 use Prim.Native.Nat.{ℕ, zero, suc, _+_, _*_, _/_, _%_, _^_, _-_, _≤_, _<_}
 use native.Mathlib.Nat.{add-comm, mul-comm, mul-assoc, mul-mod-left, mod-lt, le-refl, lt-of-lt-of-le, le-of-mul-le-mul-left, le-of-eq, le-antisymm, div-add-mod'}
 use native.Mathlib.Decide.{ℕ-discrete}
+use native.Mathlib.Numerals.{add-one}
 use native.Mathlib.Omega.{arith}
 use lib.Pow.{pow-add, pow-pos, pow-mono}
 use Rattle.words.specs.Alpha.{Alpha}
@@ -16,6 +17,8 @@ use Rattle.words.proofs.Congruence.{
   same-sym,
   same-trans,
   same-of-eq,
+  same-mod,
+  same-regroup,
   same-result,
   same-add,
   same-scale,
@@ -28,11 +31,13 @@ use Rattle.words.proofs.Congruence.{
 use Rattle.words.proofs.Places.{trailing-alpha}
 use Rattle.sequences.proofs.Agreement.{Agree, Reduced, agree-lower, agree-zero}
 use Rattle.sequences.proofs.Isometric.{Isometric}
+use Rattle.sequences.proofs.Strides.{Strides}
 use Rattle.sequences.proofs.Contracting.{Contracting, Scaling, scaling-contracting}
 use Rattle.generator.specs.declared.Generator.{Generator}
 use Rattle.generator.specs.Recurrence.{element}
-use Rattle.generator.specs.Affine.{Linear}
-use Rattle.generator.proofs.Walking.{step-linear}
+use Rattle.generator.specs.declared.linear.Affine.{Affine}
+use Rattle.generator.specs.Affine.{Linear, onceOf, apply}
+use Rattle.generator.proofs.Walking.{step-linear, next-once}
 
 pub reduced : {g : Generator} → Linear g → Reduced (g .width) (element g)
 unfolding element
@@ -71,6 +76,29 @@ isometric {g} v odd =
             λ h. record { places = odd-cancel (g .multiplier) odd m (products v m i j l .0 (h .places)) },
           );
     }
+
+-- one step scales differences by the multiplier
+pub strides : {g : Generator} → Linear g → Strides (g .width) (element g) 1 (g .multiplier)
+strides {g} v =
+    record {
+      scales =
+          λ i l.
+          same-trans (same-add (next i) (same-refl _ (a * element g l)))
+          (same-regroup (same-sym (same-add (next l) (same-refl _ (a * element g i)))) (omega arith) refl);
+    }
+  where
+    a : ℕ
+    a = g .multiplier
+
+    next : (i : ℕ) → Congruent (2 ^ g .width) (element g (i + 1)) (a * element g i + g .increment)
+    next i = rw add-one (next-place v (g .width) i (le-refl _))
+
+-- the map of one step takes the seed to a number that stands for element 1
+pub one-held : {g : Generator} {once : Affine} {next : ℕ} → Linear g → once ≡ onceOf g →
+    next ≡ apply once (g .seed) % 2 ^ 64 → Congruent (2 ^ g .width) next (element g 1)
+unfolding element
+one-held {g} {once} {next} v e h =
+    same-trans (same-sym (same-mod (2 ^ g .width) next)) (same-of-eq _ (next-once (g .seed) v e h))
 
 -- a factor d on both sides, and in the modulus
 times-cancel : {d u w : ℕ} → 0 < d → d * u ≡ d * w → u ≡ w

@@ -8,14 +8,13 @@ use native.Mathlib.Omega.{arith}
 use lib.Pow.{pow-pos, pow-lt, pow-mono}
 use borrow.Author.Tests.{eq-eqb, ne-eqb}
 use Rattle.words.specs.Alpha.{Alpha, FirstDifference}
-use Rattle.words.proofs.Congruence.{mod-two}
+use Rattle.words.proofs.Congruence.{same-sym, same-trans, same-lower, mod-two}
 use Rattle.sequences.specs.Orbit.{IsOrbit}
 use Rattle.sequences.specs.Places.{Agree}
 use Rattle.sequences.proofs.Least.{least-unique}
 use Rattle.sequences.proofs.Orbits.{orbit-never, preperiod-is, period-is}
-use Rattle.sequences.proofs.Agreement.{agree-of-eq, reduced-eq}
+use Rattle.sequences.proofs.Agreement.{reduced-eq}
 use Rattle.sequences.proofs.Isometric.{exponent, exponent-le, isometric-orbit}
-use Rattle.sequences.proofs.Search.{places-agree, places-reach}
 use Rattle.sequences.proofs.Contracting.{rest-orbit, resting, Scaling, scaling-contracting, scaled-rests}
 use Rattle.generator.specs.declared.Generator.{Generator}
 use Rattle.generator.specs.declared.Refusal.{Refusal}
@@ -26,11 +25,10 @@ use Rattle.generator.specs.Affine.{Linear, onceOf, apply}
 use Rattle.generator.proofs.Refusals.{modulus-linear, linear}
 use Rattle.generator.proofs.Elements.{element-start, element-follows}
 use Rattle.generator.proofs.Replies.{number-suc, number-nonzero}
-use Rattle.generator.proofs.Walking.{strides-once, strides-value}
 use Rattle.orbits.specs.declared.OrbitAnswer.the-variants.{Orbit, Refused}
 use Rattle.orbits.specs.declared.kinds.Cycle.{Cycle}
 use Rattle.orbits.specs.Orbit.{exponentOf, orbitOf, OrbitPromise, IsCycle}
-use Rattle.orbits.proofs.Elements.{reduced, isometric, scaling, contracting}
+use Rattle.orbits.proofs.Elements.{reduced, isometric, one-held, scaling, contracting}
 
 -- a power of two is above its exponent
 pub lt-two-pow : (n : ℕ) → n < 2 ^ n
@@ -44,28 +42,33 @@ module _ {g : Generator} {once : Affine} {v w next : ℕ} (pre : (Linear g) × (
   sc : Scaling (g .width) v (element g)
   sc = scaling (pre .0) (pre .1) α
 
-  seed-held : Agree (g .width) (g .seed) (element g 0)
-  seed-held = agree-of-eq (g .width) (sym (element-start g))
+  -- element 1 and the seed agree in the places up to w, and in no more
+  one-agrees : {m : ℕ} → m ≤ g .width → m ≤ w → Agree m (element g 1) (element g 0)
+  one-agrees {m} l h =
+      record {
+        places =
+            same-trans (same-sym (same-lower m l (one-held (pre .0) eo en)))
+            (record { same = d .below m h ∙ ap (λ (u : ℕ). u % 2 ^ m) (sym (element-start g)) });
+      }
 
-  one-held : Agree (g .width) next (element g 1)
-  one-held = strides-value (pre .0 .width-high) (strides-once (pre .0) eo) 0 seed-held en
+  one-reach : {m : ℕ} → m ≤ g .width → Agree m (element g 1) (element g 0) → m ≤ w
+  one-reach {m} l a =
+      d .above m (le-trans l (pre .0 .width-high))
+      (same-trans (same-lower m l (one-held (pre .0) eo en)) (a .places) .same ∙ ap (λ (u : ℕ). u % 2 ^ m) (element-start g))
 
   pub even-orbit : w < g .width →
       ((g .width - w + v - 1) / v ≤ g .width) × IsOrbit (element g) ((g .width - w + v - 1) / v) 1
   even-orbit l =
       rest-orbit (scaling-contracting sc) (reduced (pre .0))
       (scaled-rests sc l
-      (record {
-        agree = places-agree one-held seed-held d (le-of-lt l) (le-refl w);
-        differ = λ a. omega (arith, places-reach one-held seed-held d l (pre .0 .width-high) a);
-      })
+      (record { agree = one-agrees (le-of-lt l) (le-refl w); differ = λ a. omega (arith, one-reach l a) })
       (reduced (pre .0)))
 
   pub resting-orbit : g .width ≤ w → (0 ≤ g .width) × IsOrbit (element g) 0 1
   resting-orbit l =
       rest-orbit (scaling-contracting sc) (reduced (pre .0))
       (record {
-        rest = reduced-eq (reduced (pre .0)) 1 0 (places-agree one-held seed-held d (le-refl (g .width)) l);
+        rest = reduced-eq (reduced (pre .0)) 1 0 (one-agrees (le-refl (g .width)) l);
         moves = λ i h. absurd (omega arith);
       })
 

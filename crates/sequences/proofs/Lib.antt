@@ -4,5 +4,6 @@ pub mod Orbits
 pub mod Indices
 pub mod Agreement
 pub mod Isometric
+pub mod Strides
 pub mod Search
 pub mod Contracting

@@ -4,15 +4,20 @@
 -- only after twice as many? Does x k agree with y there too? Only if it returns and does not agree is there no
 -- index at all; otherwise k or k + 2 ^ e goes on.
 use mathlib.Core.Path.{_≡_, refl, sym, ap, subst, _∙_}
+use mathlib.Core.Bool.{Bool, true, false, not, true≢false}
 use mathlib.Core.Logic.{_↔_}
-use Prim.Native.Nat.{ℕ, suc, _+_, _%_, _^_, _≤_, _<_}
+use Prim.Native.Nat.{ℕ, suc, _+_, _*_, _%_, _^_, _≤_, _<_}
 use native.Mathlib.Nat.{le-of-lt, le-trans, le-antisymm, lt-of-lt-of-le, lt-of-not-le, mod-eq-of-lt}
 use native.Mathlib.Decide.{decLe}
 use native.Mathlib.Numerals.{add-one}
 use native.Mathlib.Omega.{arith}
+use lib.Dec.{eqb}
 use lib.Pow.{pow-pos, pow-lt, pow-mono}
-use Rattle.words.specs.Alpha.{FirstDifference}
-use Rattle.words.proofs.Congruence.{Congruent, same-refl, same-sym, same-trans}
+use borrow.Author.Tests.{eqb-true, eqb-false}
+use Rattle.words.specs.Alpha.{Alpha}
+use Rattle.words.specs.Masks.{Meets, Widens}
+use Rattle.words.proofs.Congruence.{Congruent, same-refl, same-sym, same-trans, same-result, same-lower}
+use Rattle.words.proofs.Places.{alpha-below, alpha-above, above-agree, above-zero}
 use Rattle.sequences.specs.Index.{Located, Absent}
 use Rattle.sequences.specs.Orbit.{IsOrbit}
 use Rattle.sequences.specs.Places.{Settles}
@@ -40,6 +45,7 @@ use Rattle.sequences.proofs.Isometric.{
   period-law,
 }
 use Rattle.sequences.proofs.Orbits.{return-orbit}
+use Rattle.sequences.proofs.Strides.{Front, front-here, front-ahead}
 
 -- m places are settled, 2 ^ e is the period in them, and k is the least index whose
 -- element agrees with y in them
@@ -103,40 +109,45 @@ module _ {n : ℕ} {x : ℕ → ℕ} (iso : Isometric n x) {y m e k : ℕ} (l : 
           period-law iso (suc m) l (exponent-stays iso k l (s .period-exponent) h) .law i k .1
           (matches iso (le-of-lt l) s i .0 (agree-lower m (omega arith) a))
 
--- The loop. Beside k it holds a number that stands for x k and the period modulo 2 ^ 64, and it makes its two tests by
--- the first place in which two held numbers differ.
+-- The loop. Beside k it holds where it stands with a stride of one period, the period modulo 2 ^ 64 and the mask of the places
+-- up to m. Whether x returns it sees from α of the gap, whether x k agrees with y from the mask of what x k is above y.
 
 -- what it begins with
-pub record Begins (n : ℕ) (x : ℕ → ℕ) (seed limit : ℕ) : Type 0 where
+pub record Begins (n : ℕ) (x : ℕ → ℕ) (y limit away gap factor : ℕ) : Type 0 where
   pub isometric : Isometric n x
-  pub start : Agree n seed (x 0)
+  pub front : Front n x y 0 1 away gap factor
   pub within : limit ≤ n
   pub word : n ≤ 64
 
 -- what it holds with m places settled
-pub record Searching (n : ℕ) (x : ℕ → ℕ) (y limit held k period e m : ℕ) : Type 0 where
+pub record Searching (n : ℕ) (x : ℕ → ℕ) (y limit away gap factor k period e m mask : ℕ) : Type 0 where
   pub places : m ≤ limit
   pub settled : Settled x y m e k
-  pub stands : Agree n held (x k)
+  pub front : Front n x y k (2 ^ e) away gap factor
   pub power : period ≡ 2 ^ e % 2 ^ 64
+  pub ones : m < 64 → mask + 1 ≡ 2 ^ suc m
 
-pub search-start : {n : ℕ} {x : ℕ → ℕ} {seed limit : ℕ} (y : ℕ) → Begins n x seed limit → Searching n x y limit seed 0 1 0 0
-search-start {x = x} y b =
-    record { places = omega arith; settled = settled-start x y; stands = b .start; power = refl }
+pub search-start : {n : ℕ} {x : ℕ → ℕ} {y limit away gap factor : ℕ} → Begins n x y limit away gap factor →
+    Searching n x y limit away gap factor 0 1 0 0 1
+search-start {x = x} {y} b =
+    record {
+      places = omega arith;
+      settled = settled-start x y;
+      front = b .front;
+      power = refl;
+      ones = λ l. refl;
+    }
 
--- u and w stand for s and t
-module _ {n u w s t r : ℕ} (h : Agree n u s) (k : Agree n w t) (d : FirstDifference u w r) {m : ℕ} (l : m ≤ n) where
-  pub places-agree : m ≤ r → Agree m s t
-  places-agree b =
-      agree-trans (agree-sym (agree-lower m l h))
-      (agree-trans (record { places = record { same = d .below m b } }) (agree-lower m l k))
+not-false : (c : Bool) → not c ≡ false → c ≡ true
+not-false true e = refl
+not-false false e = absurd (true≢false e)
 
-  pub places-reach : n ≤ 64 → Agree m s t → m ≤ r
-  places-reach b a =
-      d .above m (le-trans l b) (agree-trans (agree-lower m l h) (agree-trans a (agree-sym (agree-lower m l k))) .places .same)
+not-true : (c : Bool) → not c ≡ true → c ≡ false
+not-true true e = absurd (true≢false (sym e))
+not-true false e = refl
 
-module _ {n : ℕ} {x : ℕ → ℕ} {seed limit : ℕ} (b : Begins n x seed limit) {y held k period e m : ℕ}
-    (s : Searching n x y limit held k period e m) where
+module _ {n : ℕ} {x : ℕ → ℕ} {y limit away₀ gap₀ factor₀ : ℕ} (b : Begins n x y limit away₀ gap₀ factor₀)
+    {away gap factor k period e m mask : ℕ} (s : Searching n x y limit away gap factor k period e m mask) where
   settled-places : m ≤ n
   settled-places = le-trans (s .places) (b .within)
 
@@ -160,8 +171,14 @@ module _ {n : ℕ} {x : ℕ → ℕ} {seed limit : ℕ} (b : Begins n x seed lim
   search-done l = handed (λ f. absurd (omega arith))
 
   module _ (l : m < limit) where
+    next-place : suc m ≤ n
+    next-place = le-trans l (b .within)
+
+    narrow : suc m ≤ 64
+    narrow = le-trans next-place (b .word)
+
     pub exponent-below : e < 64
-    exponent-below = omega (arith, exponent-le x m, s .settled .period-exponent, b .within, b .word)
+    exponent-below = omega (arith, exponent-le x m, s .settled .period-exponent, narrow)
 
     -- the period in hand is the period, and one period further on the index still fits
     period-is : period ≡ 2 ^ e
@@ -171,69 +188,96 @@ module _ {n : ℕ} {x : ℕ → ℕ} {seed limit : ℕ} (b : Begins n x seed lim
     ahead-fits =
         omega (arith, period-is, s .settled .below, pow-mono {i = suc e} {j = 64} exponent-below)
 
-    module _ {next returning agreeing : ℕ} (ahead : Agree n next (x (k + 2 ^ e)))
-        (dr : FirstDifference next held returning) (da : FirstDifference held y agreeing) where
-      next-place : suc m ≤ n
-      next-place = le-trans l (b .within)
-
-      -- both differences are at place m or above it
+    module _ {returning wider : ℕ} {differs : Bool} (α : Alpha gap returning) (meets : Meets away mask differs)
+        (w : Widens mask wider) where
+      -- x returns in m places, so that the gap has no bit below place m
       returning-from : m ≤ returning
       returning-from =
-          places-reach ahead (s .stands) dr settled-places (b .word)
-          (period-law (b .isometric) m settled-places (s .settled .period-exponent) .law (k + 2 ^ e) k .1 (agree-next e k))
-
-      agreeing-from : m ≤ agreeing
-      agreeing-from = places-reach (s .stands) (agree-of-eq n refl) da settled-places (b .word) (s .settled .agrees)
+          alpha-above α m (le-trans settled-places (b .word))
+          (above-zero gap (s .front .ahead) settled-places
+          (period-law (b .isometric) m settled-places (s .settled .period-exponent) .law (k + 2 ^ e) k .1 (agree-next e k) .places))
 
       stays : (returning ≡ m → ⊥) → Agree (suc m) (x (k + 2 ^ e)) (x k)
-      stays d = places-agree ahead (s .stands) dr next-place (omega (arith, returning-from))
+      stays d =
+          record {
+            places = above-agree gap (s .front .ahead) next-place (alpha-below α (suc m) (omega (arith, returning-from)));
+          }
 
       doubles : returning ≡ m → Agree (suc m) (x (k + 2 ^ e)) (x k) → ⊥
-      doubles d a = omega (arith, places-reach ahead (s .stands) dr next-place (b .word) a)
+      doubles d a =
+          omega (arith, alpha-above α (suc m) narrow (above-zero gap (s .front .ahead) next-place (a .places)))
 
-      agrees : (agreeing ≡ m → ⊥) → Agree (suc m) (x k) y
-      agrees d = places-agree (s .stands) (agree-of-eq n refl) da next-place (omega (arith, agreeing-from))
+      told : differs ≡ not (eqb (away % 2 ^ suc m) 0)
+      told = meets .tells (suc m) (s .ones narrow)
 
-      differs : agreeing ≡ m → Agree (suc m) (x k) y → ⊥
-      differs d a = omega (arith, places-reach (s .stands) (agree-of-eq n refl) da next-place (b .word) a)
+      agrees : differs ≡ false → Agree (suc m) (x k) y
+      agrees d =
+          record {
+            places =
+                above-agree away (s .front .here) next-place
+                (eqb-true _ _ (not-false (eqb (away % 2 ^ suc m) 0) (sym told ∙ d)));
+          }
 
-      pub search-stops : (returning ≡ m → ⊥) → agreeing ≡ m → Settles x y limit m k e
-      search-stops r a =
-          handed (λ f. stays-differs (b .isometric) next-place (s .settled) (stays r) (differs a))
+      apart : differs ≡ true → Agree (suc m) (x k) y → ⊥
+      apart d a =
+          eqb-false _ _ (not-true (eqb (away % 2 ^ suc m) 0) (sym told ∙ d))
+          (above-zero away (s .front .here) next-place (a .places))
 
-      pub search-stays : (returning ≡ m → ⊥) → (agreeing ≡ m → ⊥) → Searching n x y limit held k period e (m + 1)
+      -- the mask of the next place
+      wider-ones : suc m < 64 → wider + 1 ≡ 2 ^ suc (suc m)
+      wider-ones f = w .widens (suc m) f (s .ones narrow)
+
+      pub search-stops : (returning ≡ m → ⊥) → differs ≡ true → Settles x y limit m k e
+      search-stops r a = handed (λ f. stays-differs (b .isometric) next-place (s .settled) (stays r) (apart a))
+
+      pub search-stays : (returning ≡ m → ⊥) → differs ≡ false →
+          Searching n x y limit away gap factor k period e (m + 1) wider
       search-stays r a =
           rw add-one
           (record {
             places = l;
             settled = stays-agrees (b .isometric) next-place (s .settled) (stays r) (agrees a);
-            stands = s .stands;
+            front = s .front;
             power = s .power;
+            ones = wider-ones;
           })
 
-      module _ {twice : ℕ} (et : twice ≡ (period + period) % 2 ^ 64) where
+      -- with twice the period, as the machine reckons modulo 2 ^ 64
+      module _ {twice square wide : ℕ} (times : ℕ) (et : twice ≡ (period + period) % 2 ^ 64)
+          (es : square ≡ factor * factor % 2 ^ 64) (ew : wide ≡ times * gap % 2 ^ 64) where
         twice-is : twice ≡ 2 ^ suc e % 2 ^ 64
         twice-is =
             et ∙ ap (λ (p : ℕ). p % 2 ^ 64) (let q : period + period ≡ 2 ^ suc e = omega (arith, period-is) in q)
 
-        pub search-doubles : returning ≡ m → (agreeing ≡ m → ⊥) → Searching n x y limit held k twice (e + 1) (m + 1)
-        search-doubles r a =
+        low : {u : ℕ} (v : ℕ) → u ≡ v % 2 ^ 64 → Congruent (2 ^ n) u v
+        low v h = same-lower n (b .word) (same-result v h)
+
+        double : 2 ^ e + 2 ^ e ≡ 2 ^ suc e
+        double = omega arith
+
+        pub search-doubles : returning ≡ m → differs ≡ false → times ≡ (factor + 1) % 2 ^ 64 →
+            Searching n x y limit away wide square k twice (e + 1) (m + 1) wider
+        search-doubles r a h =
             rw (add-one m, add-one e)
             (record {
               places = l;
               settled = doubles-agrees (b .isometric) next-place (s .settled) (doubles r) (agrees a);
-              stands = s .stands;
+              front = rw double at (front-here (s .front) (low _ es) (low _ ew) (low _ h));
               power = twice-is;
+              ones = wider-ones;
             })
 
-        pub search-ahead : returning ≡ m → agreeing ≡ m → Searching n x y limit next (k + period) twice (e + 1) (m + 1)
-        search-ahead r a =
+        pub search-ahead : {beyond : ℕ} → returning ≡ m → differs ≡ true → times ≡ (square + factor) % 2 ^ 64 →
+            beyond ≡ (away + gap) % 2 ^ 64 →
+            Searching n x y limit beyond wide square (k + period) twice (e + 1) (m + 1) wider
+        search-ahead r a h eb =
             rw (add-one m, add-one e, period-is)
             (record {
               places = l;
-              settled = doubles-differs (b .isometric) next-place (s .settled) (doubles r) (differs a);
-              stands = ahead;
+              settled = doubles-differs (b .isometric) next-place (s .settled) (doubles r) (apart a);
+              front = rw double at (front-ahead (s .front) (low _ es) (low _ ew) (low _ h) (low _ eb));
               power = twice-is;
+              ones = wider-ones;
             })
 
 -- What is read off: the least index of y or that it has none, and the orbit.

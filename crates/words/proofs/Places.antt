@@ -11,9 +11,10 @@ use lib.Arith.{mod-mul}
 use lib.Bits.{bitAnd, and-mask}
 use lib.Count.{trailingZeros, under, trailing-le, trailing-of-zero}
 use lib.Dec.{eqb, leb, lit<}
-use lib.Pow.{pow-pos, ones-split, ones-lt, high}
+use lib.Pow.{pow-pos, pow-mono, ones-split, ones-lt, high}
 use borrow.Author.Tests.{eq-eqb, ne-eqb, le-leb, lt-leb}
 use Rattle.words.specs.Alpha.{Alpha, FirstDifference}
+use Rattle.words.specs.Masks.{Meets, Widens}
 use Rattle.words.proofs.Congruence.{Congruent, same-refl, same-regroup, same-sym, same-trans, same-result, same-add, same-add-cancel, same-lower}
 
 -- n modulo a power of two, by its lowest bit and the rest
@@ -65,34 +66,42 @@ trailing-alpha z h =
 multiple-of : {z : ℕ} (m : ℕ) → z % 2 ^ m ≡ 0 → Congruent (2 ^ m) z 0
 multiple-of m e = record { same = e ∙ sym (zero-mod (2 ^ m)) }
 
+-- z is a multiple of 2 ^ m up to α of it, and no further
+module _ {z r : ℕ} (α : Alpha z r) where
+  pub alpha-below : (m : ℕ) → m ≤ r → z % 2 ^ m ≡ 0
+  alpha-below m l = same-lower m l (multiple-of r (α .multiple)) .same ∙ zero-mod (2 ^ m)
+
+  pub alpha-above : (m : ℕ) → m ≤ 64 → z % 2 ^ m ≡ 0 → m ≤ r
+  alpha-above m l e = elim (decLe m r) [ yes h ↦ h | no f ↦ absurd (past (lt-of-not-le f) (ℕ-discrete z 0)) ]
+    where
+      past : r < m → Dec (z ≡ 0) → ⊥
+      past g (yes q) = omega (arith, α .at-zero q)
+      past g (no f) = α .exact f (same-lower (suc r) g (multiple-of m e) .same ∙ zero-mod (2 ^ suc r))
+
+-- d above v modulo 2 ^ n is u: they agree in the low m places exactly where d has no bit there
+module _ {n u v : ℕ} (d : ℕ) (h : Congruent (2 ^ n) (v + d) u) {m : ℕ} (l : m ≤ n) where
+  pub above-agree : d % 2 ^ m ≡ 0 → Congruent (2 ^ m) u v
+  above-agree z =
+      same-trans (same-sym (same-lower m l h)) (same-regroup (same-add (same-refl _ v) (multiple-of m z)) refl (omega arith))
+
+  pub above-zero : Congruent (2 ^ m) u v → d % 2 ^ m ≡ 0
+  above-zero c =
+      same-add-cancel {c = v} {d = v}
+      (same-regroup {s = d + v} {t = 0 + v} (same-trans (same-lower m l h) c) (omega arith) (omega arith))
+      (same-refl _ v) .same
+      ∙ zero-mod (2 ^ m)
+
 -- α of the difference modulo 2 ^ 64
 pub alpha-difference : {a b d r : ℕ} → (d + b) % 2 ^ 64 ≡ a → Alpha d r → FirstDifference a b r
 alpha-difference {a} {b} {d} {r} e α =
     record {
-      below = λ m l. agree m (same-lower m l (multiple-of r (α .multiple))) (le-trans l (α .small)) .same;
-      above = λ m l s. last m l s (decLe m r);
+      below = λ m l. above-agree d whole (le-trans l (α .small)) (alpha-below α m l) .same;
+      above = λ m l s. alpha-above α m l (above-zero d whole l (record { same = s }));
       small = α .small;
     }
   where
-    sum : (m : ℕ) → m ≤ 64 → Congruent (2 ^ m) a (d + b)
-    sum m l = same-lower m l (same-result (d + b) (sym e))
-
-    agree : (m : ℕ) → Congruent (2 ^ m) d 0 → m ≤ 64 → Congruent (2 ^ m) a b
-    agree m h l =
-        same-trans (sum m l) (same-regroup (same-add h (same-refl _ b)) refl (omega arith))
-
-    past : (m : ℕ) → m ≤ 64 → a % 2 ^ m ≡ b % 2 ^ m → r < m → Dec (d ≡ 0) → ⊥
-    past m l s g (yes z) = omega (arith, α .at-zero z)
-    past m l s g (no f) =
-        α .exact f
-        (same-lower (suc r) g
-        (same-add-cancel
-        (same-regroup (same-trans (same-sym (sum m l)) (record { same = s })) refl (omega arith))
-        (same-refl _ b)) .same ∙ zero-mod (2 ^ suc r))
-
-    last : (m : ℕ) → m ≤ 64 → a % 2 ^ m ≡ b % 2 ^ m → Dec (m ≤ r) → m ≤ r
-    last m l s (yes h) = h
-    last m l s (no f) = absurd (past m l s (lt-of-not-le f) (ℕ-discrete d 0))
+    whole : Congruent (2 ^ 64) (b + d) a
+    whole = same-sym (same-result (b + d) (sym e ∙ ap (λ (t : ℕ). t % 2 ^ 64) (omega arith)))
 
 -- 64 ones shifted down to n
 pub ones-shifted : (n : ℕ) → n ≤ 64 → (2 ^ 64 - 1) / 2 ^ (64 - n) ≡ 2 ^ n - 1
@@ -117,3 +126,24 @@ exceeds-test n x =
       | no f ↦
           ap not (eq-eqb (x % 2 ^ n) x (mod-eq-of-lt (lt-of-not-le f))) ∙ sym (lt-leb (2 ^ n) x (lt-of-not-le f))
     ]
+
+-- a mask of m ones
+pub mask-meets : (z mask : ℕ) → Meets z mask (not (eqb (bitAnd z mask) 0))
+mask-meets z mask =
+    record {
+      tells =
+          λ m q.
+          ap (λ (u : ℕ). not (eqb u 0))
+          (ap (bitAnd z) (let h : mask ≡ 2 ^ m - 1 = omega (arith, q) in h) ∙ and-mask z m);
+    }
+
+pub mask-widens : {mask r : ℕ} (t : ℕ) → t ≡ (mask + mask) % 2 ^ 64 → r ≡ (t + 1) % 2 ^ 64 → Widens mask r
+mask-widens {mask} {r} t et er =
+    record {
+      widens =
+          λ m l q.
+          let p : 2 ^ suc m ≡ 2 ^ m + 2 ^ m = omega arith in
+          let b : 2 ^ suc m ≤ 2 ^ 64 = pow-mono l in
+          let u : t ≡ mask + mask = et ∙ mod-eq-of-lt (omega arith) in
+          let w : r ≡ t + 1 = er ∙ mod-eq-of-lt (omega arith) in omega arith;
+    }

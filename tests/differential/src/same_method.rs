@@ -66,22 +66,28 @@ fn element_of(g: Generator, index: u64) -> u64 {
 }
 
 /// For an odd multiplier. Up to each place `index` is the least index that agrees with the number,
-/// x its element, and `cycle` the map of 2^exponent steps, the cycle of the places so far.
+/// `away` what its element is above the number, `gap` what the element one cycle of the places so
+/// far on is above that, and `factor` what such a cycle multiplies differences by.
 fn index_up_the_places(g: Generator, number: u64) -> Option<u64> {
-    let (mut index, mut x, mut cycle, mut exponent) = (0, g.seed, Map::step(g), 0);
+    let (mut index, mut cycle, mut factor, mut places) = (0, 1u64, g.multiplier, 1u64);
+    let mut away = g.seed.wrapping_sub(number);
+    let mut gap = Map::step(g).apply(g.seed).wrapping_sub(g.seed);
     for place in 0..g.width {
-        let next = cycle.apply(x);
-        let doubles = next.wrapping_sub(x).trailing_zeros() as u64 == place;
-        if x.wrapping_sub(number).trailing_zeros() as u64 == place {
-            if !doubles {
-                return None;
+        let differs = away & places != 0;
+        places = places << 1 | 1;
+        if gap.trailing_zeros() as u64 == place {
+            let square = factor.wrapping_mul(factor);
+            let mut growth = factor.wrapping_add(1);
+            if differs {
+                index += cycle;
+                away = away.wrapping_add(gap);
+                growth = square.wrapping_add(factor);
             }
-            index += 1 << exponent;
-            x = next;
-        }
-        if doubles {
-            cycle = cycle.then(cycle);
-            exponent += 1;
+            gap = growth.wrapping_mul(gap);
+            factor = square;
+            cycle = cycle.wrapping_add(cycle);
+        } else if differs {
+            return None;
         }
     }
     Some(index)

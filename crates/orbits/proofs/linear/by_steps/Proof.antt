@@ -18,7 +18,7 @@ loop-holds c = passing-start (c .args .g) (c .args .y)
 returns : tie.Need-returns Inv-loop μ-loop
 returns c =
     let l = c .before .before in
-    passing-found (l .loop .inv) (l .before .pre .0) (c .before .loop-test .taken) (c .if1 .taken)
+    passing-found (l .loop .inv) (l .before .pre .0) (omega (arith, c .before .loop-test .taken)) (c .if1 .taken)
 
 next-requires : tie.Need-next-requires Inv-loop μ-loop
 next-requires c κs = search needs
@@ -32,10 +32,10 @@ loop-less c = search needs
 loop-again : tie.Need-loop-again Inv-loop μ-loop
 loop-again c =
     let d = c .before in
-    passing-next (d .before .before .loop .inv) (d .before .loop-test .taken) (d .if1 .left) (c .next .ensures)
+    passing-next (d .before .before .loop .inv) (omega (arith, d .before .loop-test .taken)) (d .if1 .left) (c .next .ensures)
 
 returns-2 : tie.Need-returns-2 Inv-loop μ-loop
-returns-2 c = passing-never (c .before .loop .inv) (c .before .before .pre) (c .loop-test .left)
+returns-2 c = passing-never (c .before .loop .inv) (c .before .before .pre) (omega (arith, c .loop-test .left))
 
 pub by-steps-spec : {M : Type 1} → statement M
 by-steps-spec =

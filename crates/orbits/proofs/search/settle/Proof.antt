@@ -2,7 +2,8 @@
 use borrow.Author.Needs.{needs}
 use Prim.Native.Nat.{_-_}
 use native.Mathlib.Omega.{arith}
-use Rattle.sequences.proofs.Search.{exponent-below, ahead-fits}
+use Rattle.sequences.proofs.Search.{Begins, exponent-below, ahead-fits}
+use Rattle.generator.specs.Recurrence.{element}
 use Rattle.orbits.proofs.Searches.{
   Loop,
   generator-begins,
@@ -50,14 +51,20 @@ add-m c = search needs
 widened-requires : tie.Need-widened-requires Inv-loop μ-loop
 widened-requires c κs = search needs
 
+-- the generator begins the search
+begins : (c : tie.After-wrapping-sub-u642 Inv-loop μ-loop) →
+    let a = c .before .before .before .before .args in
+    Begins (a .g .width) (element (a .g)) (a .y) (a .limit) (c .before .before .before .wrapping-sub-u64 .result)
+    (c .wrapping-sub-u642 .result) (a .g .multiplier)
+begins c =
+    let n = c .before in
+    generator-begins (n .before .before .before .pre) (n .before .once .ensures) (n .value-at .ensures)
+    (n .before .before .wrapping-sub-u64 .ensures) (c .wrapping-sub-u642 .ensures)
+
 add-ahead : tie.Need-add-ahead Inv-loop μ-loop
 add-ahead c =
     let l = c .before .before .before .before in
-    let g = l .before .before in
-    let n = g .before in
-    let b =
-    generator-begins (n .before .before .before .pre) (n .before .once .ensures) (n .value-at .ensures)
-    (n .before .before .wrapping-sub-u64 .ensures) (g .wrapping-sub-u642 .ensures) in
+    let b = begins (l .before .before) in
     record { fits = ahead-fits b (l .before .loop .inv .law _ _ b) (l .loop-test .taken) }
 
 wrapping-add-u64-requires : tie.Need-wrapping-add-u64-requires Inv-loop μ-loop
@@ -78,11 +85,7 @@ wrapping-add-u64-requires-2 c κs = search needs
 add-e : tie.Need-add-e Inv-loop μ-loop
 add-e c =
     let l = c .before .before .before .before .before .before .before .before .before in
-    let g = l .before .before in
-    let n = g .before in
-    let b =
-    generator-begins (n .before .before .before .pre) (n .before .once .ensures) (n .value-at .ensures)
-    (n .before .before .wrapping-sub-u64 .ensures) (g .wrapping-sub-u642 .ensures) in
+    let b = begins (l .before .before) in
     omega (arith, exponent-below b (l .before .loop .inv .law _ _ b) (l .loop-test .taken))
 
 loop-less : tie.Need-loop-less Inv-loop μ-loop
@@ -117,13 +120,8 @@ returns : tie.Need-returns Inv-loop μ-loop
 returns c =
     let d = c .before .before in
     let l = d .before .before .before in
-    let g = l .before .before in
-    let n = g .before in
     loop-stops (l .before .loop .inv) (l .loop-test .taken) (d .before .before .alpha .ensures) (d .before .meets .ensures)
-    (d .widened .ensures)
-    (generator-begins (n .before .before .before .pre) (n .before .once .ensures) (n .value-at .ensures)
-    (n .before .before .wrapping-sub-u64 .ensures) (g .wrapping-sub-u642 .ensures))
-    (c .before .if1 .left) (c .if3 .taken)
+    (d .widened .ensures) (begins (l .before .before)) (c .before .if1 .left) (c .if3 .taken)
 
 loop-less-3 : tie.Need-loop-less-3 Inv-loop μ-loop
 loop-less-3 c = search needs
@@ -136,13 +134,7 @@ loop-again-3 c =
     (d .widened .ensures) (c .before .if1 .left) (c .if3 .left)
 
 returns-2 : tie.Need-returns-2 Inv-loop μ-loop
-returns-2 c =
-    let g = c .before .before in
-    let n = g .before in
-    loop-done (c .before .loop .inv)
-    (generator-begins (n .before .before .before .pre) (n .before .once .ensures) (n .value-at .ensures)
-    (n .before .before .wrapping-sub-u64 .ensures) (g .wrapping-sub-u642 .ensures))
-    (c .loop-test .left)
+returns-2 c = loop-done (c .before .loop .inv) (begins (c .before .before)) (c .loop-test .left)
 
 pub settle-spec : {M : Type 1} → statement M
 settle-spec =

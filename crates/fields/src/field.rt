@@ -54,17 +54,11 @@ fn read_on(s: &[u8], from: usize, mark: u8, first: u64) -> Field
     Field::Unreadable
 }
 
-// The digit that a byte stands for, or 10 where it stands for none.
+// The digit that a byte stands for, or 10 or more where it stands for none.
 fn digit(b: u8) -> u64
     ensures { λ r. ⌜ (r < 10 → b ≡ 48 + r) × (9 < r → 48 ≤ b → 57 < b) ⌝ }
 {
-    if b < 48 {
-        return 10;
-    }
-    if b > 57 {
-        return 10;
-    }
-    (b - 48) as u64
+    (b as u64 + 208) % 256
 }
 
 // The number with the digits of `v` and behind them `d`, or 0 where none has them: `v` would be a

@@ -2,7 +2,7 @@
 -- two rules each law is an induction over the digits. The main tool is `scan`, which reads the digits at the front of any
 -- bytes. In the digits of v, followed by no further digit, it finds v and what follows; so the two are determined.
 use mathlib.Core.Path.{_≡_, refl, sym, ap, _∙_, subst, subst₂}
-use mathlib.Core.Bool.{Bool, true, false, cond, _&&_}
+use mathlib.Core.Bool.{Bool, true, false, cond}
 use mathlib.Core.List.{List, [], _∷_, _++_, append-assoc}
 use mathlib.Core.List.{List·Memᴰ, List·Memᴰ·append-cases, List·Memᴰ·eq-of-singleton}
 use mathlib.Core.Logic.{⊎-elim, by-cases}
@@ -13,6 +13,7 @@ use lib.Dec.{leb}
 use lib.ListN.{length, getD, drop, length-append}
 use borrow.Author.Tests.{lt-ltb, le-ltb, le-leb, lt-leb}
 use Rattle.fields.specs.Digits.{lastDigits, digitsOf}
+use Rattle.fields.specs.Line.{isDigit, numbersFrom}
 
 -- The two rules.
 
@@ -155,9 +156,6 @@ length-four v h =
 
 -- Reading digits.
 
-abbrev isDigit : ℕ → Bool
-isDigit b = leb 48 b && leb b 57
-
 -- the number that the digits at the front of the bytes make behind those of v, and the bytes that follow them
 scan : ℕ → List ℕ → ℕ × List ℕ
 scan v [] = (v, [])
@@ -225,3 +223,25 @@ field-unique {m = m} {n = n} {xs} {ys} stops stops' e =
 pub digits-prefix : (u v : ℕ) (xs ys : List ℕ) → Stops ys → digitsOf u ++ xs ≡ digitsOf v ++ ys → u ≤ v
 digits-prefix u v xs ys stops e =
     omega (arith, scan-grows u xs, ap (λ (p : ℕ × List ℕ). p .0) (scan-field u v xs ys stops e))
+
+-- The guess at a line's numbers goes on behind the digits that are scanned, if any byte is left there.
+after : ℕ × List ℕ → List ℕ
+after (v, []) = []
+after (v, b ∷ rest) = v ∷ numbersFrom 0 rest
+
+numbers-scan : (v : ℕ) (bytes : List ℕ) → numbersFrom v bytes ≡ after (scan v bytes)
+unfolding numbersFrom scan after
+numbers-scan v [] = refl
+numbers-scan v (b ∷ rest) = go (isDigit b) (numbers-scan (v * 10 + (b - 48)) rest)
+  where
+    go : (t : Bool) → numbersFrom (v * 10 + (b - 48)) rest ≡ after (scan (v * 10 + (b - 48)) rest) →
+        elim t [ true ↦ numbersFrom (v * 10 + (b - 48)) rest | false ↦ v ∷ numbersFrom 0 rest ]
+        ≡ after (cond t (scan (v * 10 + (b - 48)) rest) (v, b ∷ rest))
+    go true e = e
+    go false e = refl
+
+-- so it begins with the number of a field
+pub numbers-field : (v m : ℕ) (rest : List ℕ) → Stops (m ∷ rest) → numbersFrom 0 (digitsOf v ++ (m ∷ rest)) ≡ v ∷ numbersFrom 0 rest
+unfolding after
+numbers-field v m rest stops =
+    numbers-scan 0 (digitsOf v ++ (m ∷ rest)) ∙ ap after (scan-digits v (m ∷ rest) ∙ scan-stop v (m ∷ rest) stops)

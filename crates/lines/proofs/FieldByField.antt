@@ -10,7 +10,7 @@ use lib.Seq.{take-all, take-suc, take-suc-set, split-at, length-take-le}
 use Rattle.fields.specs.Digits.{digitsOf}
 use Rattle.fields.specs.Field.{Found, NoField, Written}
 use Rattle.fields.specs.Line.{AllBelow, fieldsLine, NoLine}
-use Rattle.fields.proofs.Line.{
+use Rattle.fields.proofs.Steps.{
   FieldsRead,
   nothing-read,
   field-read,

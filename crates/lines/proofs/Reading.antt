@@ -11,7 +11,7 @@ use Rattle.generator.specs.declared.Refusal.the-variants.{MalformedLine}
 use Rattle.generator.specs.Refusals.{numberOf}
 use Rattle.generator.proofs.Replies.{number-suc, number-nonzero}
 use Rattle.fields.specs.Line.{NoLine}
-use Rattle.fields.proofs.Line.{line-injective}
+use Rattle.fields.proofs.Steps.{line-injective}
 use Rattle.lines.specs.declared.Run.{Run}
 use Rattle.lines.specs.declared.RunAnswer.{RunAnswer}
 use Rattle.lines.specs.declared.RunAnswer.the-variants.{Accepted, Refused}

@@ -8,7 +8,7 @@ use lib.ListN.{length, length-append}
 use Rattle.fields.specs.Field.{Found, NoField}
 use Rattle.fields.specs.Line.{fieldsLine, NoLine}
 use Rattle.fields.proofs.Digits.{digits-length}
-use Rattle.fields.proofs.Line.{nothing-read, line-read, no-field-line, longer-line}
+use Rattle.fields.proofs.Steps.{nothing-read, line-read, no-field-line, longer-line}
 use Rattle.runfind_io.specs.Question.{Asks, AsksNone}
 
 module _ (s : List ℕ) where

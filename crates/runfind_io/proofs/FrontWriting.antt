@@ -9,7 +9,7 @@ use lib.ListN.{length, take, drop, length-append, length-drop, drop-of-length-le
 use lib.Seq.{take-length, take-all, take-append-seam, drop-append-seam, drop-drop}
 use Rattle.fields.specs.Field.{Written}
 use Rattle.fields.specs.Line.{fieldsLine}
-use Rattle.fields.proofs.Line.{nothing-written, field-written, line-written}
+use Rattle.fields.proofs.Steps.{nothing-written, field-written, line-written}
 use Rattle.runfind_io.specs.Output.{FrontWritten}
 
 pub within : {bytes before after : List ℕ} {n : ℕ} → FrontWritten bytes before after n → n ≤ length after

@@ -7,7 +7,7 @@ use lib.Dec.{eqb}
 use Rattle.fields.specs.Line.{fieldsLine}
 use Rattle.archive.specs.Lookup.{LookupReply, LookupPromise}
 use Rattle.runfind_io.specs.declared.output.Outcome.{Outcome}
-use Rattle.runfind_io.specs.Ascii.{ascii}
+use Rattle.fields.specs.Ascii.{ascii}
 use Rattle.runfind_io.specs.Output.{outcomeLine, refusedLine}
 
 -- The refusal's number and line; none; or the line and the position of the place found.

@@ -4,7 +4,7 @@ use mathlib.Core.List.{List, [], _∷_, _++_}
 use Prim.Native.Nat.{ℕ}
 use lib.ListN.{length, drop}
 use Rattle.fields.specs.Line.{fieldsLine}
-use Rattle.runfind_io.specs.Ascii.{ascii}
+use Rattle.fields.specs.Ascii.{ascii}
 use Rattle.runfind_io.specs.declared.output.Outcome.{Outcome}
 use Rattle.runfind_io.specs.declared.output.Outcome.the-variants.{Place, NotFound, Refused, BadQuestion, Unread}
 

@@ -143,13 +143,13 @@ module _ {bytes : List ℕ} {y at number end : ℕ} (s : Left bytes y at number)
   left-refused x r =
       number-nonzero x
       (ap (λ (p : RunReply). p .refusal)
-      (r .of-line (next .run) (record { words = valid-words (valid-run _ (next-accepted .0)); line = part-is })
+      (r .meaning .of-line (next .run) (record { words = valid-words (valid-run _ (next-accepted .0)); line = part-is })
       ∙ ap (λ (n : ℕ). runReply n (next .run)) (next-accepted .0)))
 
   module _ {run : Run} (r : ReadPromise (take (end - at) (drop at bytes)) (acceptedRun run)) where
     -- and what is read is that run
     same : next .run ≡ run
-    same = line-run (sym part-is ∙ r .accepted refl .line)
+    same = line-run (sym part-is ∙ r .meaning .accepted refl .line)
 
     left-is : (runs : List Run) → IsArchive bytes runs → lookupOf 1 runs y ≡ lookupOf number (run ∷ next .others) y
     left-is runs is =

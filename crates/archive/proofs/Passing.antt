@@ -81,7 +81,7 @@ module _ {bytes : List ℕ} {at number : ℕ} (p : Passed bytes at number) where
           split =
               p .split
               ∙ ap (λ (m : List ℕ). archiveOf (p .runs) ++ m)
-              (after ∙ ap (λ (m : List ℕ). m ++ drop end bytes) (sym (part-read at bytes e) ∙ r .accepted refl .line))
+              (after ∙ ap (λ (m : List ℕ). m ++ drop end bytes) (sym (part-read at bytes e) ∙ r .meaning .accepted refl .line))
               ∙ sym (append-assoc (archiveOf (p .runs)) (lineOf run) (drop end bytes))
               ∙ ap (λ (m : List ℕ). m ++ drop end bytes) (sym (archive-more (p .runs) run));
           within = part-within bytes l e .1;

@@ -106,7 +106,7 @@ stops-refused {rest} {reply} r d =
     record {
       none = λ run tail a e.
           d (ap (λ (p : RunReply). p .refusal)
-          (r .of-line run
+          (r .meaning .of-line run
           (record { words = valid-words (valid-run run a); line = ap firstPart e ∙ part-line run tail })
           ∙ ap (λ (n : ℕ). runReply n run) a));
     }

@@ -1,13 +1,15 @@
--- Reading a line. It rests on `lineOf` alone: the answer is the run whose line the bytes are.
+-- Reading a line, of any bytes. It rests on `lineOf` alone: the answer is the run whose line the bytes are.
 use mathlib.Core.Path.{_≡_}
+use mathlib.Core.Bool.{true, false}
 use mathlib.Core.List.{List}
 use Prim.Native.Nat.{ℕ, zero, suc}
+use Rattle.fields.specs.Line.{numbersFrom, isLine}
 use Rattle.generator.specs.Refusals.{numberOf}
 use Rattle.lines.specs.declared.Run.{Run}
 use Rattle.lines.specs.declared.RunAnswer.{RunAnswer}
 use Rattle.lines.specs.declared.RunAnswer.the-variants.{Accepted, Refused}
 use Rattle.lines.specs.Run.{runRefusal}
-use Rattle.lines.specs.Line.{lineOf, Words}
+use Rattle.lines.specs.Line.{lineOf, runAt, Words}
 
 -- The refusal's number, 0 for none, and the run's six numbers, 0 beside a refusal.
 pub record RunReply : Type 0 where
@@ -59,14 +61,27 @@ runOf reply =
       count = reply .count;
     }
 
+-- The run whose line the bytes are, if they are one.
+abbrev pub runIn : List ℕ → Run
+runIn bytes = runAt (numbersFrom 0 bytes)
+
+-- Bytes that are no line are 2; a line gives its run, or 3 to 5.
+unfoldable pub readOf : List ℕ → RunReply
+readOf bytes =
+    elim (isLine 6 bytes) [ true ↦ runReply (runRefusal (runIn bytes)) (runIn bytes) | false ↦ refusedRun 2 ]
+
 -- The bytes are the line of the run.
 pub record IsLine (bytes : List ℕ) (run : Run) : Type 0 where
   pub words : Words run
   pub line : bytes ≡ lineOf run
 
--- The promise of the call: bytes that are a line give its run, or 3 to 5; any others give 2; and an accepted line is the
--- one of the run given.
-pub record ReadPromise (bytes : List ℕ) (reply : RunReply) : Type 0 where
+-- Bytes that are a line give its run, or 3 to 5; any others give 2; and an accepted line is the one of the run given.
+pub record ReadMeaning (bytes : List ℕ) (reply : RunReply) : Type 0 where
   pub of-line : (run : Run) → IsLine bytes run → reply ≡ runReply (runRefusal run) run
   pub of-others : ((run : Run) → IsLine bytes run → ⊥) → reply ≡ refusedRun 2
   pub accepted : reply .refusal ≡ 0 → IsLine bytes (runOf reply)
+
+-- The promise of the call.
+pub record ReadPromise (bytes : List ℕ) (reply : RunReply) : Type 0 where
+  pub equals : reply ≡ readOf bytes
+  pub meaning : ReadMeaning bytes reply

@@ -3,22 +3,22 @@
 use mathlib.Core.Path.{_≡_, refl, sym, ap, _∙_, subst}
 use mathlib.Core.Bool.{Bool, true, false}
 use mathlib.Core.List.{List, [], _∷_}
-use mathlib.Core.Logic.{_⊎_, inl, inr, ⊎-elim}
 use Prim.Native.Nat.{ℕ, zero, suc, _^_}
 use native.Mathlib.Omega.{arith}
 use lib.ListN.{length}
 use Rattle.generator.specs.declared.Refusal.{Refusal}
 use Rattle.generator.specs.declared.Refusal.the-variants.{MalformedLine}
 use Rattle.generator.specs.Refusals.{numberOf}
-use Rattle.generator.proofs.Replies.{number-suc, number-nonzero}
-use Rattle.fields.specs.Line.{AllBelow, numbersFrom, isLine, fieldsLine}
+use Rattle.generator.proofs.Replies.{number-suc}
+use Rattle.fields.specs.Line.{AllBelow, fieldsLine, numbersFrom, isLine}
 use Rattle.fields.specs.Codec.{LineRead}
-use Rattle.fields.proofs.Numbers.{numbers-line, line-injective, is-line, line-is}
+use Rattle.fields.proofs.Numbers.{numbers-line, line-injective, is-line, line-is, no-test}
 use Rattle.lines.specs.declared.Run.{Run}
 use Rattle.lines.specs.declared.RunAnswer.{RunAnswer}
 use Rattle.lines.specs.declared.RunAnswer.the-variants.{Accepted, Refused}
 use Rattle.lines.specs.Run.{runRefusal}
-use Rattle.lines.specs.Line.{numbersOf, lineOf, runAt, Words}
+use Rattle.lines.specs.Line.{numbersOf, lineOf, runAt}
+use Rattle.lines.proofs.Runs.{valid-run, valid-words}
 use Rattle.lines.specs.ReadLine.{
   RunReply,
   IsLine,
@@ -49,7 +49,7 @@ six (a ∷ b ∷ c ∷ d ∷ f ∷ g ∷ []) e = refl
 six (a ∷ b ∷ c ∷ d ∷ f ∷ g ∷ h ∷ l) e = absurd (omega arith)
 
 -- bytes that are a line, and any others
-pub in-line : {bytes : List ℕ} → isLine 6 bytes ≡ true → IsLine bytes (runIn bytes)
+in-line : {bytes : List ℕ} → isLine 6 bytes ≡ true → IsLine bytes (runIn bytes)
 in-line {bytes} t =
     let l = is-line 6 t in
     let e = sym (six (numbersFrom 0 bytes) (l .count)) in
@@ -76,25 +76,34 @@ reply-refusal (suc n) run = refl
 reply-run : {n : ℕ} (run : Run) → n ≡ 0 → runOf (runReply n run) ≡ run
 reply-run run e = rw e
 
-read-meaning : (bytes : List ℕ) → ReadMeaning bytes (readOf bytes)
-read-meaning bytes = go (isLine 6 bytes) refl
+-- an accepted line is the line of the run in it, which is accepted
+pub accepted-line : (bytes : List ℕ) → readOf bytes .refusal ≡ 0 → (runRefusal (runIn bytes) ≡ 0) × IsLine bytes (runIn bytes)
+accepted-line bytes z = go (isLine 6 bytes) refl
   where
-    go : (t : Bool) → isLine 6 bytes ≡ t → ReadMeaning bytes (readOf bytes)
+    go : (t : Bool) → isLine 6 bytes ≡ t → (runRefusal (runIn bytes) ≡ 0) × IsLine bytes (runIn bytes)
     go true t =
-        record {
-          of-line = λ run h. read-of h;
-          of-others = λ f. absurd (f (runIn bytes) (in-line t));
-          accepted = λ z.
-              let e : runRefusal (runIn bytes) ≡ 0 =
-              sym (ap (λ (r : RunReply). r .refusal) (read-lines bytes t) ∙ reply-refusal _ (runIn bytes)) ∙ z in
-              subst (IsLine bytes) (sym (ap (λ (r : RunReply). runOf r) (read-lines bytes t) ∙ reply-run (runIn bytes) e)) (in-line t);
-        }
-    go false t =
-        record {
-          of-line = λ run h. read-of h;
-          of-others = λ f. read-others bytes t;
-          accepted = λ z. absurd (omega (arith, ap (λ (r : RunReply). r .refusal) (read-others bytes t)));
-        }
+        (sym (ap (λ (r : RunReply). r .refusal) (read-lines bytes t) ∙ reply-refusal _ (runIn bytes)) ∙ z, in-line t)
+    go false t = absurd (omega (arith, ap (λ (r : RunReply). r .refusal) (read-others bytes t)))
+
+-- and the line of an accepted run reads as that run
+pub own-line : (run : Run) → runRefusal run ≡ 0 → IsLine (lineOf run) run
+own-line run z = record { words = valid-words (valid-run run z); line = refl }
+
+pub own-run : (run : Run) → runIn (lineOf run) ≡ run
+own-run run = ap runAt (numbers-line (numbersOf run))
+
+pub own-accepted : (run : Run) → runRefusal run ≡ 0 → readOf (lineOf run) .refusal ≡ 0
+own-accepted run z = ap (λ (r : RunReply). r .refusal) (read-of (own-line run z)) ∙ reply-refusal _ run ∙ z
+
+read-meaning : (bytes : List ℕ) → ReadMeaning bytes (readOf bytes)
+read-meaning bytes =
+    record {
+      of-line = λ run h. read-of h;
+      of-others = λ f. read-others bytes (no-test (isLine 6 bytes) (λ t. f (runIn bytes) (in-line t)));
+      accepted = λ z.
+          let a = accepted-line bytes z in
+          subst (IsLine bytes) (sym (ap (λ (r : RunReply). runOf r) (read-of (a .1)) ∙ reply-run (runIn bytes) (a .0))) (a .1);
+    }
 
 pub read-promise : {bytes : List ℕ} {reply : RunReply} → reply ≡ readOf bytes → ReadPromise bytes reply
 read-promise {bytes} e = record { equals = e; meaning = subst (ReadMeaning bytes) (sym e) (read-meaning bytes) }
@@ -106,15 +115,11 @@ read-run {run = run} r =
 
 pub read-same-run : {bytes : List ℕ} {run : Run} → ReadPromise bytes (acceptedRun run) → runIn bytes ≡ run
 read-same-run {bytes} {run} r =
-    ap (λ (bs : List ℕ). runIn bs) (r .meaning .accepted refl .line) ∙ ap runAt (numbers-line (numbersOf run))
+    ap (λ (bs : List ℕ). runIn bs) (r .meaning .accepted refl .line) ∙ own-run run
 
 -- the promise of an answer that is known
 pub read-as : {bytes : List ℕ} {a : RunAnswer} (b : RunAnswer) → a ≡ b → ReadPromise bytes (replyOf a) → ReadPromise bytes (replyOf b)
 read-as {bytes} b e r = subst (λ (c : RunAnswer). ReadPromise bytes (replyOf c)) e r
-
-pub read-same : {bytes : List ℕ} {reply other : RunReply} → ReadPromise bytes reply → ReadPromise bytes other →
-    reply .refusal ≡ other .refusal
-read-same r s = ap (λ (p : RunReply). p .refusal) (r .equals ∙ sym (s .equals))
 
 -- The ways out of the call.
 module _ {bytes before numbers : List ℕ} {answer : Bool} (l : LineRead bytes before numbers answer) (six : length before ≡ 6) where

@@ -67,7 +67,7 @@ runs-back (run ∷ runs) = ap₂ (λ (r : Run) (rs : List Run). r ∷ rs) (own-r
 
 -- The check.
 
-long-check : (bytes : List ℕ) → 65536 < length bytes → checkOf bytes ≡ refusedAt 1 0
+pub long-check : (bytes : List ℕ) → 65536 < length bytes → checkOf bytes ≡ refusedAt 1 0
 unfolding checkOf
 long-check bytes l = rw (lt-ltb 65536 (length bytes) l, checkOf)
 

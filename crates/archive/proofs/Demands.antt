@@ -1,12 +1,13 @@
 -- The lookup's definition meets demand 3: by induction over the runs, the place it gives shows the number and every other
 -- place that shows it comes later, or no place shows it. So an answer that equals the definition keeps the promise.
-use mathlib.Core.Path.{_≡_, refl, sym, ap, ap₂, _∙_, subst}
+use mathlib.Core.Path.{_≡_, refl, sym, ap, _∙_, subst}
 use mathlib.Core.Logic.{_⊎_, inl, inr, ⊎-elim, by-cases}
 use mathlib.Core.List.{List, [], _∷_}
 use Prim.Native.Nat.{ℕ, zero, suc, _+_, _≤_, _<_}
 use native.Mathlib.Decide.{decLt}
 use native.Mathlib.Omega.{arith}
 use lib.Dec.{eqb}
+use lib.ListN.{length}
 use borrow.Author.Tests.{eq-eqb, eqb-true}
 use Rattle.generator.specs.declared.Refusal.{Refusal}
 use Rattle.generator.specs.Refusals.{numberOf}
@@ -29,7 +30,7 @@ use Rattle.archive.specs.Lookup.{
   Demand3,
   LookupPromise,
 }
-use Rattle.archive.proofs.Checking.{check-accepts}
+use Rattle.archive.proofs.Checking.{long-check, check-accepts}
 use Rattle.archive.proofs.Looking.{lookup-next, lookup-here}
 
 -- Places.
@@ -182,6 +183,16 @@ lookup-accepted : (bytes : List ℕ) (y : ℕ) → checkOf bytes .refusal ≡ 0 
 unfolding lookupOf
 lookup-accepted bytes y z = rw (z, lookupOf)
 
+lookup-declined : (bytes : List ℕ) (y : ℕ) {n line : ℕ} → checkOf bytes ≡ refusedAt (suc n) line → lookupOf bytes y ≡ lookupRefused (suc n) line
+unfolding lookupOf
+lookup-declined bytes y {n} e =
+    let number = ap (λ (c : CheckReply). c .refusal) e in
+    rw (number, lookupOf) (ap (lookupRefused (suc n)) (ap (λ (c : CheckReply). c .line) e))
+
+-- more than 65,536 bytes, whatever they are
+pub lookup-long : (bytes : List ℕ) (y : ℕ) → 65536 < length bytes → lookupOf bytes y ≡ lookupRefused 1 0
+lookup-long bytes y l = lookup-declined bytes y (long-check bytes l)
+
 same-refusal : (bytes : List ℕ) (y : ℕ) → lookupOf bytes y .refusal ≡ checkOf bytes .refusal
 unfolding lookupOf
 same-refusal bytes y = go (checkOf bytes .refusal) refl
@@ -209,15 +220,7 @@ lookup-found {bytes} {y} z e = lookup-promise (e ∙ sym (lookup-accepted bytes 
 
 pub lookup-refused : {bytes : List ℕ} {y : ℕ} (x : Refusal) {line : ℕ} → refusedAt (numberOf x) line ≡ checkOf bytes →
     LookupPromise bytes y (lookupRefused (numberOf x) line)
-lookup-refused {bytes} {y} x {line} e = lookup-promise (sym refused)
-  where
-    n : ℕ
-    n = number-suc x .0
-
-    check : checkOf bytes .refusal ≡ suc n
-    check = ap (λ (c : CheckReply). c .refusal) (sym e) ∙ number-suc x .1
-
-    refused : lookupOf bytes y ≡ lookupRefused (numberOf x) line
-    refused =
-        unfold lookupOf in
-        rw (check, lookupOf) (ap₂ lookupRefused (sym (number-suc x .1)) (ap (λ (c : CheckReply). c .line) (sym e)))
+lookup-refused {bytes} {y} x {line} e =
+    let k = number-suc x .1 in
+    lookup-promise
+    (ap (λ (n : ℕ). lookupRefused n line) k ∙ sym (lookup-declined bytes y (sym e ∙ ap (λ (n : ℕ). refusedAt n line) k)))

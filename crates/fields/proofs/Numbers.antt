@@ -121,7 +121,7 @@ line-field {bytes} n v rest small e = (same-tests (isLine (suc n) bytes) (isLine
         line-is (suc n) (v ∷ ws) (ap suc (l .count)) (small, l .small) (e ∙ sym line)
 
 -- no numbers whose line the bytes are, no line
-no-line : {bytes : List ℕ} (n : ℕ) → ((vs : List ℕ) → length vs ≡ n → AllBelow (2 ^ 64) vs → bytes ≡ fieldsLine vs → ⊥) →
+pub no-line : {bytes : List ℕ} (n : ℕ) → ((vs : List ℕ) → length vs ≡ n → AllBelow (2 ^ 64) vs → bytes ≡ fieldsLine vs → ⊥) →
     isLine n bytes ≡ false
 no-line {bytes} n none =
     no-test (isLine n bytes) (λ h. let l = is-line n h in none (numbersFrom 0 bytes) (l .count) (l .small) (l .line))

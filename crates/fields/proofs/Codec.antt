@@ -4,7 +4,7 @@ use mathlib.Core.Path.{_≡_, refl, sym, ap, ap₂, _∙_, subst}
 use mathlib.Core.Bool.{Bool, true, false}
 use mathlib.Core.Logic.{by-cases}
 use mathlib.Core.List.{List, [], _∷_, _++_, append-assoc, append-nil}
-use Prim.Native.Nat.{ℕ, zero, suc, _+_, _*_, _-_, _^_, _≤_, _<_}
+use Prim.Native.Nat.{ℕ, zero, suc, _+_, _*_, _-_, _^_, _≤_, _<_, suc-le-suc}
 use native.Mathlib.Decide.{ℕ-discrete}
 use native.Mathlib.Numerals.{add-one}
 use native.Mathlib.Omega.{arith}
@@ -137,6 +137,15 @@ count-next {vs} {n} {k} {m} s l e =
 pub count-end : {vs : List ℕ} {n k : ℕ} → CountedSoFar vs n k → length vs ≤ k → n ≡ length (fieldsLine vs)
 unfolding fieldsLine
 count-end {vs} {n} {k} s l = omega (arith, s .all, ap (λ (ws : List ℕ). length (fieldsLine ws)) (drop-of-length-le vs l))
+
+-- a field has at most 21 bytes
+pub line-bound : (vs : List ℕ) → ((i : ℕ) → i < length vs → getD vs i 0 < 2 ^ 64) → length (fieldsLine vs) ≤ 21 * length vs
+unfolding fieldsLine
+line-bound [] below = omega arith
+line-bound (v ∷ vs) below =
+    let rest = line-bound vs (λ i l. below (suc i) (suc-le-suc l)) in
+    let first = below 0 (omega arith) in
+    simp length-append (omega (arith, digits-length v 19 (omega arith)))
 
 -- Writing.
 

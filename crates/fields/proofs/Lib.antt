@@ -5,5 +5,4 @@ pub mod Numbers
 pub mod Reading
 pub mod Writing
 pub mod Codec
-pub mod Steps
 mod Examples

@@ -1,5 +1,4 @@
 -- The line of some numbers: their fields, parted by commas and ended by the byte 10. And which bytes are such a line.
-use mathlib.Core.Path.{_≡_}
 use mathlib.Core.Bool.{Bool, true, false, _&&_}
 use mathlib.Core.List.{List, [], _∷_, _++_}
 use Prim.Native.Nat.{ℕ, zero, suc, _+_, _*_, _-_, _<_, _^_}
@@ -44,7 +43,3 @@ unfoldable pub isLine : ℕ → List ℕ → Bool
 isLine n bytes =
     let vs = numbersFrom 0 bytes in
     eqb (length vs) n && (allBelow (2 ^ 64) vs && sameBytes (fieldsLine vs) bytes)
-
--- the bytes are the line of no n numbers below 2 ^ 64
-pub record NoLine (n : ℕ) (bytes : List ℕ) : Type 0 where
-  pub none : (vs : List ℕ) → length vs ≡ n → AllBelow (2 ^ 64) vs → bytes ≡ fieldsLine vs → ⊥

@@ -9,6 +9,7 @@ use Rattle.generator.specs.Least.{least}
 use Rattle.generator.specs.Refusals.{numberOf}
 use Rattle.lines.specs.declared.Run.{Run}
 use Rattle.lines.specs.Run.{shows}
+use Rattle.lines.specs.Line.{noRun}
 use Rattle.archive.specs.declared.LookupAnswer.{LookupAnswer}
 use Rattle.archive.specs.declared.LookupAnswer.the-variants.{At, Nowhere, Refused}
 use Rattle.archive.specs.Archive.{runsIn, numbered}
@@ -56,12 +57,8 @@ lookupOf bytes y =
       | suc n ↦ lookupRefused (suc n) (checkOf bytes .line)
     ]
 
--- What stands in for a line that is not there: a run with no position.
-abbrev pub noRun : Run
-noRun =
-    record { generator = record { width = 0; multiplier = 0; increment = 0; seed = 0 }; first = 0; count = 0 }
-
--- Document 01's place: a line number and a position of that line's run. A line that is not there has no position.
+-- Document 01's place: a line number and a position of that line's run. A line that is not there has no position, since
+-- noRun has none.
 pub record Shows (runs : List Run) (line p y : ℕ) : Type 0 where
   pub position : p < numbered noRun runs line .count
   pub value : shows (numbered noRun runs line) p ≡ y

@@ -2,7 +2,7 @@
 -- two rules each law is an induction over the digits. The main tool is `scan`, which reads the digits at the front of any
 -- bytes. In the digits of v, followed by no further digit, it finds v and what follows; so the two are determined.
 use mathlib.Core.Path.{_≡_, refl, sym, ap, _∙_, subst, subst₂}
-use mathlib.Core.Bool.{Bool, true, false, cond}
+use mathlib.Core.Bool.{Bool, true, false, cond, _&&_}
 use mathlib.Core.List.{List, [], _∷_, _++_, append-assoc}
 use mathlib.Core.List.{List·Memᴰ, List·Memᴰ·append-cases, List·Memᴰ·eq-of-singleton}
 use mathlib.Core.Logic.{⊎-elim, by-cases}
@@ -13,7 +13,7 @@ use lib.Dec.{leb}
 use lib.ListN.{length, getD, drop, length-append}
 use borrow.Author.Tests.{lt-ltb, le-ltb, le-leb, lt-leb}
 use Rattle.fields.specs.Digits.{lastDigits, digitsOf}
-use Rattle.fields.specs.Line.{isDigit, numbersFrom}
+use Rattle.fields.specs.Line.{numbersFrom}
 
 -- The two rules.
 
@@ -155,6 +155,9 @@ length-four v h =
     )
 
 -- Reading digits.
+
+abbrev isDigit : ℕ → Bool
+isDigit b = leb 48 b && leb b 57
 
 -- the number that the digits at the front of the bytes make behind those of v, and the bytes that follow them
 scan : ℕ → List ℕ → ℕ × List ℕ

@@ -19,14 +19,11 @@ abbrev pub AllBelow : ℕ → List ℕ → Type 0
 AllBelow m [] = Unit {0}
 AllBelow m (v ∷ vs) = (v < m) × AllBelow m vs
 
-abbrev pub isDigit : ℕ → Bool
-isDigit b = leb 48 b && leb b 57
-
 -- The numbers of a line, guessed from any bytes behind the digits of v: digits run together, any other byte ends a number.
 unfoldable pub numbersFrom : ℕ → List ℕ → List ℕ
 numbersFrom v [] = []
 numbersFrom v (b ∷ bytes) =
-    elim (isDigit b) [ true ↦ numbersFrom (v * 10 + (b - 48)) bytes | false ↦ v ∷ numbersFrom 0 bytes ]
+    elim (leb 48 b && leb b 57) [ true ↦ numbersFrom (v * 10 + (b - 48)) bytes | false ↦ v ∷ numbersFrom 0 bytes ]
 
 abbrev pub allBelow : ℕ → List ℕ → Bool
 allBelow m [] = true

@@ -22,13 +22,11 @@ use Rattle.lines.proofs.Runs.{valid-run, valid-words}
 use Rattle.lines.specs.ReadLine.{
   RunReply,
   IsLine,
-  ReadMeaning,
   ReadPromise,
   acceptedRun,
   refusedRun,
   replyOf,
   runReply,
-  runOf,
   runIn,
   readOf,
 }
@@ -73,7 +71,7 @@ reply-refusal : (n : ℕ) (run : Run) → runReply n run .refusal ≡ n
 reply-refusal zero run = refl
 reply-refusal (suc n) run = refl
 
-reply-run : {n : ℕ} (run : Run) → n ≡ 0 → runOf (runReply n run) ≡ run
+reply-run : {n : ℕ} (run : Run) → n ≡ 0 → runReply n run .run ≡ run
 reply-run run e = rw e
 
 -- an accepted line is the line of the run in it, which is accepted
@@ -95,27 +93,28 @@ own-run run = ap runAt (numbers-line (numbersOf run))
 pub own-accepted : (run : Run) → runRefusal run ≡ 0 → readOf (lineOf run) .refusal ≡ 0
 own-accepted run z = ap (λ (r : RunReply). r .refusal) (read-of (own-line run z)) ∙ reply-refusal _ run ∙ z
 
-read-meaning : (bytes : List ℕ) → ReadMeaning bytes (readOf bytes)
-read-meaning bytes =
+read-kept : (bytes : List ℕ) → ReadPromise bytes (readOf bytes)
+read-kept bytes =
     record {
+      equals = refl;
       of-line = λ run h. read-of h;
       of-others = λ f. read-others bytes (no-test (isLine 6 bytes) (λ t. f (runIn bytes) (in-line t)));
       accepted = λ z.
           let a = accepted-line bytes z in
-          subst (IsLine bytes) (sym (ap (λ (r : RunReply). runOf r) (read-of (a .1)) ∙ reply-run (runIn bytes) (a .0))) (a .1);
+          subst (IsLine bytes) (sym (ap (λ (r : RunReply). r .run) (read-of (a .1)) ∙ reply-run (runIn bytes) (a .0))) (a .1);
     }
 
-pub read-promise : {bytes : List ℕ} {reply : RunReply} → reply ≡ readOf bytes → ReadPromise bytes reply
-read-promise {bytes} e = record { equals = e; meaning = subst (ReadMeaning bytes) (sym e) (read-meaning bytes) }
+read-promise : {bytes : List ℕ} {reply : RunReply} → reply ≡ readOf bytes → ReadPromise bytes reply
+read-promise {bytes} e = subst (ReadPromise bytes) (sym e) (read-kept bytes)
 
 -- an accepted line's run is accepted, and is the one in the bytes
 pub read-run : {bytes : List ℕ} {run : Run} → ReadPromise bytes (acceptedRun run) → runRefusal run ≡ 0
 read-run {run = run} r =
-    sym (ap (λ (reply : RunReply). reply .refusal) (r .meaning .of-line run (r .meaning .accepted refl)) ∙ reply-refusal _ run)
+    sym (ap (λ (reply : RunReply). reply .refusal) (r .of-line run (r .accepted refl)) ∙ reply-refusal _ run)
 
 pub read-same-run : {bytes : List ℕ} {run : Run} → ReadPromise bytes (acceptedRun run) → runIn bytes ≡ run
 read-same-run {bytes} {run} r =
-    ap (λ (bs : List ℕ). runIn bs) (r .meaning .accepted refl .line) ∙ own-run run
+    ap (λ (bs : List ℕ). runIn bs) (r .accepted refl .line) ∙ own-run run
 
 -- the promise of an answer that is known
 pub read-as : {bytes : List ℕ} {a : RunAnswer} (b : RunAnswer) → a ≡ b → ReadPromise bytes (replyOf a) → ReadPromise bytes (replyOf b)

@@ -19,7 +19,7 @@ use Rattle.generator.proofs.Replies.{number-suc}
 use Rattle.lines.specs.declared.Run.{Run}
 use Rattle.lines.specs.Run.{runRefusal}
 use Rattle.lines.specs.Line.{lineOf}
-use Rattle.lines.specs.ReadLine.{RunReply, ReadPromise, acceptedRun, refusedRun, runReply, runOf}
+use Rattle.lines.specs.ReadLine.{RunReply, ReadPromise, acceptedRun, refusedRun, runReply}
 use Rattle.lines.specs.WriteLine.{writeRefusal, bufferAfter, WritePromise}
 use Rattle.lines.proofs.Runs.{valid-run, valid-words, line-short}
 
@@ -55,7 +55,7 @@ pub written-reads :
     ReadPromise (take (wrote .value) after) reads →
     reads ≡ acceptedRun run
 written-reads {run} w z r =
-    r .meaning .of-line run (record { words = valid-words (valid-run run (written-run w z)); line = written-line w z })
+    r .of-line run (record { words = valid-words (valid-run run (written-run w z)); line = written-line w z })
     ∙ ap (λ (n : ℕ). runReply n run) (written-run w z)
 
 -- an accepted line is the one that the writer makes of the run read, whatever the buffer held before
@@ -63,10 +63,10 @@ pub read-writes :
     {bytes before after : List ℕ} {wrote : ValueReply} {reads : RunReply} →
     ReadPromise bytes reads →
     reads .refusal ≡ 0 →
-    WritePromise (runOf reads) before after wrote →
+    WritePromise (reads .run) before after wrote →
     wrote .refusal ≡ 0 →
     take (wrote .value) after ≡ bytes
-read-writes r z w y = written-line w y ∙ sym (r .meaning .accepted z .line)
+read-writes r z w y = written-line w y ∙ sym (r .accepted z .line)
 
 -- For a client that has a buffer of 107 bytes: it is refused only what the run is refused, and gets the run back.
 pub write-as : {run : Run} {before after : List ℕ} {a : ValueAnswer} (b : ValueAnswer) → a ≡ b →

@@ -32,3 +32,8 @@ runAt vs =
 -- The six numbers are unsigned 64-bit numbers.
 abbrev pub Words : Run → Type 0
 Words run = AllBelow (2 ^ 64) (numbersOf run)
+
+-- The run of zeros, which stands in for one that is not there.
+abbrev pub noRun : Run
+noRun =
+    record { generator = record { width = 0; multiplier = 0; increment = 0; seed = 0 }; first = 0; count = 0 }

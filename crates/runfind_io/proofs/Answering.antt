@@ -1,4 +1,4 @@
--- The line printed for a lookup's answer is the one for the reply that the lookup promises.
+-- The outcome of a lookup's answer is the one of the reply that the lookup promises.
 use mathlib.Core.Path.{_≡_, sym, ap, _∙_}
 use mathlib.Core.List.{List}
 use Prim.Native.Nat.{ℕ}
@@ -8,12 +8,13 @@ use Rattle.generator.specs.Refusals.{numberOf}
 use Rattle.generator.proofs.Replies.{number-nonzero}
 use Rattle.archive.specs.declared.LookupAnswer.{LookupAnswer}
 use Rattle.archive.specs.Lookup.{LookupReply, LookupPromise, lookupOf, lookupRefused, replyOf}
-use Rattle.runfind_io.specs.Answer.{replyLine}
-use Rattle.runfind_io.specs.Output.{refusedLine}
+use Rattle.runfind_io.specs.declared.output.Outcome.{Outcome}
+use Rattle.runfind_io.specs.declared.output.Outcome.the-variants.{Refused}
+use Rattle.runfind_io.specs.Decision.{outcomeOf}
 
 pub answered : {bytes : List ℕ} {y : ℕ} {a : LookupAnswer} (b : LookupAnswer) → a ≡ b → LookupPromise bytes y (replyOf a) →
-    replyLine (replyOf b) ≡ replyLine (lookupOf bytes y)
-answered b e p = ap (λ (r : LookupReply). replyLine r) (ap replyOf (sym e) ∙ p .equals)
+    outcomeOf (replyOf b) ≡ outcomeOf (lookupOf bytes y)
+answered b e p = ap (λ (r : LookupReply). outcomeOf r) (ap replyOf (sym e) ∙ p .equals)
 
-pub refused-line : (x : Refusal) (line : ℕ) {n : ℕ} → n ≡ numberOf x → refusedLine n line ≡ replyLine (lookupRefused (numberOf x) line)
-refused-line x line e = rw (ne-eqb (numberOf x) 0 (number-nonzero x), e)
+pub refused-as : (x : Refusal) (line : ℕ) {n : ℕ} → n ≡ numberOf x → Refused n line ≡ outcomeOf (lookupRefused (numberOf x) line)
+refused-as x line e = rw (ne-eqb (numberOf x) 0 (number-nonzero x), e)

@@ -14,7 +14,8 @@ use Rattle.archive.specs.Archive.{linesOf}
 use Rattle.archive.specs.Check.{firstRefused, checkOf}
 use Rattle.archive.specs.Lookup.{positionOf, firstShowing, lookupOf}
 use Rattle.runfind_io.specs.declared.question.Question.the-variants.{Number, Malformed}
-use Rattle.runfind_io.specs.Decision.{Source, holds, unreadable, askedOf, lineFor}
+use Rattle.runfind_io.specs.Decision.{Source, holds, unreadable, askedOf, outcomeFor}
+use Rattle.runfind_io.specs.Output.{outcomeLine}
 use Rattle.runfind_io.specs.Question.{questionOf}
 
 -- the largest question, and bytes that are none
@@ -35,7 +36,7 @@ questions = refl
 
 -- a question, and what the file holds
 abbrev printed : List ℕ → Source → List ℕ
-printed input file = lineFor (askedOf (holds input)) file
+printed input file = outcomeLine (outcomeFor (askedOf (holds input)) file)
 
 abbrev two : Source
 two = holds (ascii "4,5,3,1,0,16\n10,371,995,73,100,8\n")

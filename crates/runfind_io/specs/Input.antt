@@ -1,4 +1,5 @@
--- For the functions that read: how many bytes they have to read where more may follow.
+-- For the functions behind the decision: how many bytes have to be read where more may follow, and the question.
+use mathlib.Core.Path.{_≡_}
 use mathlib.Core.Bool.{Bool, true, false}
 use mathlib.Core.List.{List}
 use Prim.Native.Nat.{ℕ, zero, suc, _≤_}
@@ -7,6 +8,8 @@ use Rattle.io.specs.Counts.{Counts}
 use Rattle.runfind_io.specs.declared.input.Reading.{Reading}
 use Rattle.runfind_io.specs.declared.input.Rest.{Rest}
 use Rattle.runfind_io.specs.declared.input.Rest.the-variants.{Nothing, Unknown, Failed}
+use Rattle.runfind_io.specs.declared.question.Question.{Question}
+use Rattle.runfind_io.specs.Decision.{Source, askedOf, ReadOf}
 
 -- where more may follow, n is at least this many
 abbrev pub Enough : ℕ → ℕ → Rest → Type 0
@@ -24,3 +27,7 @@ unfoldable pub restAfter : Bool → ℕ → Rest
 restAfter true more = Failed
 restAfter false zero = Nothing
 restAfter false (suc k) = Unknown
+
+-- the question is the one that standard input holds, whatever follows what was read
+pub record Asked (input : List ℕ) (rest : Rest) (question : Question) : Type 0 where
+  pub is : (stdin : Source) → ReadOf stdin input rest → question ≡ askedOf stdin

@@ -1,8 +1,7 @@
 // What the program prints, decided by what was read.
-ghost use mathlib.Core.Path.{_≡_};
 ghost use lib.ListN.{length};
-ghost use Rattle.runfind_io.specs.Decision.{Asked, Decided};
-ghost use Rattle.runfind_io.specs.Input.{Enough};
+ghost use Rattle.runfind_io.specs.Decision.{Decided};
+ghost use Rattle.runfind_io.specs.Input.{Asked, Enough};
 use crate::answer::answer;
 use crate::input::Rest;
 use crate::output::Outcome;

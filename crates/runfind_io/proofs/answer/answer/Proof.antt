@@ -1,8 +1,8 @@
--- `answer::answer` meets its contract: each outcome prints as the lookup's reply.
+-- `answer::answer` meets its contract: each outcome is the one of the lookup's reply.
 use borrow.Author.Needs.{needs}
 use mathlib.Core.Path.{_∙_}
 use Rattle.archive.specs.declared.LookupAnswer.the-variants.{At, Nowhere, Refused}
-use Rattle.runfind_io.proofs.Answering.{answered, refused-line}
+use Rattle.runfind_io.proofs.Answering.{answered, refused-as}
 use Rattle.runfind_io.proofs.answer.answer.Statement.{statement}
 use Rattle.runfind_io.proofs.answer.answer.Tie as tie
 
@@ -30,7 +30,7 @@ returns-2 c = answered Nowhere (c .enum-told .given .1) (c .before .before .look
 returns-3 : tie.Need-returns-3
 returns-3 c =
     let refused = c .before .before .found2 .given in
-    refused-line (refused .0 .0) (refused .0 .1 .0) (c .number .ensures)
+    refused-as (refused .0 .0) (refused .0 .1 .0) (c .number .ensures)
     ∙ answered (Refused _ _) (refused .1) (c .before .before .before .before .lookup .ensures)
 
 pub answer-spec : {M : Type 1} → statement M

@@ -1,7 +1,8 @@
 #!/usr/bin/env bash
 # Runs the program `runfind` on many questions and archives, each in a folder of its own, and
 # compares what it prints byte for byte. What it should print is written out here, or comes from
-# the reference beside this file. Its exit status and standard error don't matter, but it must end.
+# the reference beside this file. Its exit status doesn't matter, and standard error only where the answer can't be written;
+# but it must end.
 #
 #     runfind.sh PROGRAM
 
@@ -127,6 +128,15 @@ digits() {
     head -c 100000000 /dev/zero | tr '\0' 7
 }
 
+# Runs a program whose standard input is a pipe that is still open but has nothing to read.
+not_blocking='
+import os, sys
+out, into = os.pipe()
+os.set_blocking(out, False)
+os.dup2(out, 0)
+os.set_inheritable(into, True)
+os.execv(sys.argv[1], sys.argv[1:])'
+
 questions() {
     archive "$example"
     answers 'no input' '' question
@@ -154,9 +164,11 @@ questions() {
     answers '20 nines' '99999999999999999999\n' question
     answers '21 digits' '100000000000000000000\n' question
     answers '2^64 - 1' '18446744073709551615\n' none
+    answers 'more behind 2^64 - 1' '18446744073709551615\nx' question
     answers 'zero' '0\n' 1,9
     prints 'standard input closed' question <&-
     prints 'standard input is a folder' question <"$work"
+    prints 'standard input is empty and does not block' question python3 -c "$not_blocking"
     digits | prints '100 MB of digits' question
     { digits; echo; } | prints '100 MB of digits and byte 10' question
     { echo 5; digits; } | prints '100 MB behind byte 10' question
@@ -355,6 +367,17 @@ in_pieces() {
     fed 'archive in pieces, 65537 bytes' refused,1,0 "${bytes:0:20000}" "${bytes:20000}" '\n' '\n'
 }
 
+# An answer that can't be written is told in one sentence on standard error.
+unwritten() {
+    archive "$example"
+    (cd "$folder" && echo 5 | "$program" >/dev/full 2>"$work/errors")
+    if [ "$(wc -l <"$work/errors")" -eq 1 ]; then
+        report ok "standard output is full: $(cat "$work/errors")"
+    else
+        report FAIL 'standard output is full: no sentence on standard error'
+    fi
+}
+
 examples
 questions
 question_first
@@ -367,5 +390,6 @@ order
 searches
 even_multipliers
 in_pieces
+unwritten
 echo "runfind: $compared compared, $failed failed"
 [ "$failed" -eq 0 ]

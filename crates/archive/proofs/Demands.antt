@@ -1,37 +1,37 @@
 -- The lookup's definition meets demand 3: by induction over the runs, the place it gives shows the number and every other
--- place that shows it comes later, or no place shows it.
-use mathlib.Core.Path.{_≡_, refl, ap, _∙_, subst}
+-- place that shows it comes later, or no place shows it. So an answer that equals the definition keeps the promise.
+use mathlib.Core.Path.{_≡_, refl, sym, ap, _∙_, subst}
 use mathlib.Core.Logic.{_⊎_, inl, inr, ⊎-elim, by-cases}
 use mathlib.Core.List.{List, [], _∷_}
 use Prim.Native.Nat.{ℕ, zero, suc, _+_, _≤_, _<_}
 use native.Mathlib.Decide.{decLt}
 use native.Mathlib.Omega.{arith}
 use lib.Dec.{eqb}
-use borrow.Author.Tests.{eq-eqb, ne-eqb, eqb-true}
+use lib.ListN.{length}
+use borrow.Author.Tests.{eq-eqb, eqb-true}
 use Rattle.generator.specs.declared.Refusal.{Refusal}
 use Rattle.generator.specs.Refusals.{numberOf}
 use Rattle.sequences.proofs.Least.{Least, least-least, least-below}
-use Rattle.generator.proofs.Replies.{number-nonzero}
+use Rattle.generator.proofs.Replies.{number-suc}
 use Rattle.lines.specs.declared.Run.{Run}
 use Rattle.lines.specs.Run.{shows}
-use Rattle.archive.specs.declared.LookupAnswer.{LookupAnswer}
-use Rattle.archive.specs.declared.LookupAnswer.the-variants.{Refused}
-use Rattle.archive.specs.Archive.{IsArchive, numbered}
-use Rattle.archive.specs.Check.{CheckPromise, Readable}
+use Rattle.archive.specs.Archive.{runsIn, numbered}
+use Rattle.archive.specs.Check.{CheckReply, refusedAt, checkOf, Accepts}
 use Rattle.archive.specs.Lookup.{
   positionOf,
   LookupReply,
   foundAt,
   foundNone,
+  lookupRefused,
+  firstShowing,
   lookupOf,
   Shows,
   Later,
   Demand3,
   LookupPromise,
-  replyOf,
 }
-use Rattle.archive.proofs.Passing.{readable-check}
-use Rattle.archive.proofs.Finding.{lookup-next, lookup-here}
+use Rattle.archive.proofs.Checking.{long-check, check-accepts}
+use Rattle.archive.proofs.Looking.{lookup-next, lookup-here}
 
 -- Places.
 
@@ -74,12 +74,12 @@ position-first run {y} {p} e = least-below (position-least run y) p (eq-eqb (sho
 record Some (k : ℕ) (runs : List Run) (y : ℕ) : Type 0 where
   line : ℕ
   position : ℕ
-  reply : lookupOf (suc k) runs y ≡ foundAt (k + suc line) position
+  reply : firstShowing (suc k) runs y ≡ foundAt (k + suc line) position
   here : Shows runs (suc line) position y
   later : (l p : ℕ) → Shows runs l p y → ((l ≡ suc line) × (p ≡ position) → ⊥) → Later l p (suc line) position
 
 record None (k : ℕ) (runs : List Run) (y : ℕ) : Type 0 where
-  reply : lookupOf (suc k) runs y ≡ foundNone
+  reply : firstShowing (suc k) runs y ≡ foundNone
   nowhere : (l p : ℕ) → Shows runs l p y → ⊥
 
 -- the first run shows y
@@ -134,7 +134,7 @@ none-other k run runs y e o =
     nowhere (suc (suc l)) p h = o .nowhere (suc l) p (other-shows l h)
 
 outcome : (k : ℕ) (runs : List Run) (y : ℕ) → Some k runs y ⊎ None k runs y
-outcome k [] y = inr (record { reply = unfold lookupOf in refl; nowhere = λ l p. no-run-shows l })
+outcome k [] y = inr (record { reply = unfold firstShowing in refl; nowhere = λ l p. no-run-shows l })
 outcome k (run ∷ runs) y =
     let rest = outcome (suc k) runs y in
     by-cases (decLt (positionOf run y) (run .count)) (λ l. inl (some-first k run runs y l))
@@ -143,10 +143,10 @@ outcome k (run ∷ runs) y =
     ⊎-elim (λ o. inl (some-other k run runs y e o)) (λ o. inr (none-other k run runs y e o)) rest)
 
 -- Demand 3.
-pub lookup-demand : (runs : List Run) (y : ℕ) → Demand3 runs y (lookupOf 1 runs y)
+pub lookup-demand : (runs : List Run) (y : ℕ) → Demand3 runs y (firstShowing 1 runs y)
 lookup-demand runs y = ⊎-elim some none (outcome 0 runs y)
   where
-    some : Some 0 runs y → Demand3 runs y (lookupOf 1 runs y)
+    some : Some 0 runs y → Demand3 runs y (firstShowing 1 runs y)
     some o =
         let e : 0 + suc (o .line) ≡ suc (o .line) = omega arith in
         rw (o .reply, e)
@@ -156,7 +156,7 @@ lookup-demand runs y = ⊎-elim some none (outcome 0 runs y)
           none = (λ f. absurd (omega arith), λ nowhere. absurd (nowhere (suc (o .line)) (o .position) (o .here)));
         })
 
-    none : None 0 runs y → Demand3 runs y (lookupOf 1 runs y)
+    none : None 0 runs y → Demand3 runs y (firstShowing 1 runs y)
     none o =
         rw (o .reply)
         (record {
@@ -165,31 +165,62 @@ lookup-demand runs y = ⊎-elim some none (outcome 0 runs y)
           none = (λ f. o .nowhere, λ nowhere. refl);
         })
 
--- The promise of the call, of an archive that is read.
-pub lookup-promise : {bytes : List ℕ} {y : ℕ} (reply : LookupReply) → reply .refusal ≡ 0 → Readable bytes →
-    ((runs : List Run) → IsArchive bytes runs → reply ≡ lookupOf 1 runs y) → LookupPromise bytes y reply
-lookup-promise {bytes} {y} reply z r e =
-    record {
-      check = rw z (readable-check r);
-      zeros = λ d. absurd (d z);
-      equals = e;
-      meaning = λ runs is. rw (e runs is) (lookup-demand runs y);
-    }
+-- The promise of the call.
 
-pub lookup-refused : {bytes : List ℕ} {y : ℕ} (x : Refusal) (line : ℕ) → CheckPromise bytes (numberOf x) line →
-    LookupPromise bytes y (replyOf (Refused x line))
-lookup-refused {bytes} x line c =
-    record {
-      check = rw (ne-eqb (numberOf x) 0 (number-nonzero x)) c;
-      zeros = λ d. (refl, refl);
-      equals = λ runs is. absurd (refused runs is);
-      meaning = λ runs is. absurd (refused runs is);
-    }
+-- a lookup is refused as the check is, and only so
+showing-accepted : (k : ℕ) (runs : List Run) (y : ℕ) → firstShowing k runs y .refusal ≡ 0
+unfolding firstShowing
+showing-accepted k [] y = refl
+showing-accepted k (run ∷ runs) y =
+    let rest = showing-accepted (suc k) runs y in
+    by-cases (decLt (positionOf run y) (run .count))
+    (λ l. ap (λ (r : LookupReply). r .refusal) (lookup-here k run runs y (l, refl)))
+    (λ d.
+    let e : positionOf run y ≡ run .count = omega (arith, position-least run y .within) in
+    ap (λ (r : LookupReply). r .refusal) (lookup-next k run runs y e) ∙ rest)
+
+lookup-accepted : (bytes : List ℕ) (y : ℕ) → checkOf bytes .refusal ≡ 0 → lookupOf bytes y ≡ firstShowing 1 (runsIn bytes) y
+unfolding lookupOf
+lookup-accepted bytes y z = rw (z, lookupOf)
+
+lookup-declined : (bytes : List ℕ) (y : ℕ) {n line : ℕ} → checkOf bytes ≡ refusedAt (suc n) line → lookupOf bytes y ≡ lookupRefused (suc n) line
+unfolding lookupOf
+lookup-declined bytes y {n} e =
+    let number = ap (λ (c : CheckReply). c .refusal) e in
+    rw (number, lookupOf) (ap (lookupRefused (suc n)) (ap (λ (c : CheckReply). c .line) e))
+
+-- more than 65,536 bytes, whatever they are
+pub lookup-long : (bytes : List ℕ) (y : ℕ) → 65536 < length bytes → lookupOf bytes y ≡ lookupRefused 1 0
+lookup-long bytes y l = lookup-declined bytes y (long-check bytes l)
+
+same-refusal : (bytes : List ℕ) (y : ℕ) → lookupOf bytes y .refusal ≡ checkOf bytes .refusal
+unfolding lookupOf
+same-refusal bytes y = go (checkOf bytes .refusal) refl
   where
-    refused : (runs : List Run) → IsArchive bytes runs → ⊥
-    refused runs is = number-nonzero x (c .of-archive runs is .0)
+    go : (n : ℕ) → checkOf bytes .refusal ≡ n → lookupOf bytes y .refusal ≡ checkOf bytes .refusal
+    go zero e = rw (e, lookupOf) (showing-accepted 1 (runsIn bytes) y)
+    go (suc n) e = rw (e, lookupOf)
 
--- the promise of an answer that is known
-pub lookup-as : {bytes : List ℕ} {y : ℕ} {a : LookupAnswer} (b : LookupAnswer) → a ≡ b → LookupPromise bytes y (replyOf a) →
-    LookupPromise bytes y (replyOf b)
-lookup-as {bytes} {y} b e p = subst (λ (c : LookupAnswer). LookupPromise bytes y (replyOf c)) e p
+lookup-meaning : (bytes : List ℕ) (y : ℕ) → LookupPromise bytes y (lookupOf bytes y)
+lookup-meaning bytes y =
+    record {
+      equals = refl;
+      accepts = subst (Accepts bytes) (sym (same-refusal bytes y)) (check-accepts bytes);
+      meaning = λ z.
+          subst (Demand3 (runsIn bytes) y) (sym (lookup-accepted bytes y (sym (same-refusal bytes y) ∙ z))) (lookup-demand (runsIn bytes) y);
+    }
+
+lookup-promise : {bytes : List ℕ} {y : ℕ} {reply : LookupReply} → reply ≡ lookupOf bytes y → LookupPromise bytes y reply
+lookup-promise {bytes} {y} e = subst (LookupPromise bytes y) (sym e) (lookup-meaning bytes y)
+
+-- past the check, and where it refuses
+pub lookup-found : {bytes : List ℕ} {y : ℕ} {reply : LookupReply} → checkOf bytes .refusal ≡ 0 →
+    reply ≡ firstShowing 1 (runsIn bytes) y → LookupPromise bytes y reply
+lookup-found {bytes} {y} z e = lookup-promise (e ∙ sym (lookup-accepted bytes y z))
+
+pub lookup-refused : {bytes : List ℕ} {y : ℕ} (x : Refusal) {line : ℕ} → refusedAt (numberOf x) line ≡ checkOf bytes →
+    LookupPromise bytes y (lookupRefused (numberOf x) line)
+lookup-refused {bytes} {y} x {line} e =
+    let k = number-suc x .1 in
+    lookup-promise
+    (ap (λ (n : ℕ). lookupRefused n line) k ∙ sym (lookup-declined bytes y (sym e ∙ ap (λ (n : ℕ). refusedAt n line) k)))

@@ -1,49 +1,114 @@
--- Document 01's archive, and the definitions of the lookup and the line computed on it.
+-- Document 01's archive, the empty one and damaged ones, and the definitions of the calls computed on them.
 use mathlib.Core.Path.{_≡_, refl}
 use mathlib.Core.List.{List, [], _∷_, _++_, map}
 use Prim.Native.Nat.{ℕ}
 use Rattle.sequences.specs.Least.{least}
 use Rattle.generator.specs.Recurrence.{modulus, step, element}
+use Rattle.generator.specs.Refusals.{refusalOf}
+use Rattle.fields.specs.Ascii.{ascii}
 use Rattle.fields.specs.Digits.{lastDigits, digitsOf}
-use Rattle.fields.specs.Line.{fieldsLine}
+use Rattle.fields.specs.Line.{fieldsLine, numbersFrom, isLine}
 use Rattle.lines.specs.declared.Run.{Run}
-use Rattle.lines.specs.Run.{shows}
-use Rattle.archive.specs.Archive.{archiveOf, numbered}
-use Rattle.archive.specs.Check.{firstPart}
-use Rattle.archive.specs.Line.{lineAt, startOf}
-use Rattle.archive.specs.Lookup.{positionOf, lookupOf, foundAt, foundNone}
+use Rattle.lines.specs.Run.{shows, runRefusal}
+use Rattle.lines.specs.ReadLine.{readOf}
+use Rattle.archive.specs.declared.Part.{Part}
+use Rattle.archive.specs.Archive.{linesOf, runsIn, archiveOf, numbered}
+use Rattle.archive.specs.Check.{refusedAt, firstRefused, checkOf}
+use Rattle.archive.specs.Line.{lineAt, placeFrom, placeOf}
+use Rattle.archive.specs.Lookup.{positionOf, firstShowing, lookupOf, foundAt, foundNone, lookupRefused}
 
 abbrev run : ℕ → ℕ → ℕ → ℕ → ℕ → ℕ → Run
 run n a c x s l =
     record { generator = record { width = n; multiplier = a; increment = c; seed = x }; first = s; count = l }
 
-abbrev two : List Run
-two = run 4 5 3 1 0 16 ∷ run 10 371 995 73 100 8 ∷ []
+abbrev two : List ℕ
+two = ascii "4,5,3,1,0,16\n10,371,995,73,100,8\n"
 
--- "4,5,3,1,0,16" and "10,371,995,73,100,8", each with byte 10
-first : List ℕ
-first = 52 ∷ 44 ∷ 53 ∷ 44 ∷ 51 ∷ 44 ∷ 49 ∷ 44 ∷ 48 ∷ 44 ∷ 49 ∷ 54 ∷ 10 ∷ []
-
-second : List ℕ
-second = 49 ∷ 48 ∷ 44 ∷ 51 ∷ 55 ∷ 49 ∷ 44 ∷ 57 ∷ 57 ∷ 53 ∷ 44 ∷ 55 ∷ 51 ∷ 44 ∷ 49 ∷ 48 ∷ 48 ∷ 44 ∷ 56 ∷ 10 ∷ []
-
-bytes : archiveOf two ≡ first ++ second
-unfolding archiveOf fieldsLine digitsOf lastDigits first second
-bytes = refl
-
-parts : firstPart (first ++ second) ∷ firstPart second ∷ firstPart [] ∷ firstPart (49 ∷ 50 ∷ []) ∷ [] ≡ first ∷ second ∷ [] ∷ (49 ∷ 50 ∷ []) ∷ []
-unfolding firstPart first second
-parts = refl
-
--- 5 is at line 1, position 4; 49 at line 2, position 0; 985 and 16 nowhere
-lookups : map (lookupOf 1 two) (5 ∷ 49 ∷ 985 ∷ 16 ∷ []) ≡ foundAt 1 4 ∷ foundAt 2 0 ∷ foundNone ∷ foundNone ∷ []
-unfolding lookupOf positionOf least shows element step modulus
-lookups = refl
-
-lines : map (lineAt two) (0 ∷ 1 ∷ 2 ∷ 3 ∷ []) ≡ [] ∷ first ∷ second ∷ [] ∷ []
-unfolding lineAt numbered fieldsLine digitsOf lastDigits first second
+-- its lines and its runs; bytes behind the last byte 10 are a line too
+lines :
+    map linesOf (two ∷ ascii "" ∷ ascii "\n\n12" ∷ [])
+    ≡ (ascii "4,5,3,1,0,16\n" ∷ ascii "10,371,995,73,100,8\n" ∷ [])
+    ∷ []
+    ∷ (ascii "\n" ∷ ascii "\n" ∷ ascii "12" ∷ [])
+    ∷ []
+unfolding linesOf
 lines = refl
 
-starts : map (startOf two) (0 ∷ 1 ∷ 2 ∷ 3 ∷ []) ≡ 0 ∷ 0 ∷ 13 ∷ 0 ∷ []
-unfolding startOf archiveOf fieldsLine digitsOf lastDigits
-starts = refl
+runs : runsIn two ≡ run 4 5 3 1 0 16 ∷ run 10 371 995 73 100 8 ∷ []
+unfolding linesOf numbersFrom
+runs = refl
+
+bytes : archiveOf (runsIn two) ≡ two
+unfolding linesOf numbersFrom archiveOf fieldsLine digitsOf lastDigits
+bytes = refl
+
+-- accepted: this archive and the empty one; refused: a bad last line, of byte 10 missing, a leading zero, 2^64, seven
+-- fields, an empty line, byte 13; and a run of count 0 in line 1 before a bad line 2
+abbrev damaged : List (List ℕ)
+damaged =
+    (two ++ ascii "4,5,3\n")
+    ∷ (two ++ ascii "4,5,3,1,0,16")
+    ∷ (two ++ ascii "4,5,3,1,0,07\n")
+    ∷ ascii "4,5,3,1,0,18446744073709551616\n"
+    ∷ ascii "4,5,3,1,0,16,1\n"
+    ∷ (two ++ ascii "\n")
+    ∷ ascii "4,5,3,1,0,16\r\n"
+    ∷ ascii "4,5,3,1,0,0\n\n"
+    ∷ []
+
+checks :
+    map checkOf (two ∷ [] ∷ damaged)
+    ≡ refusedAt 0 0
+    ∷ refusedAt 0 0
+    ∷ refusedAt 2 3
+    ∷ refusedAt 2 3
+    ∷ refusedAt 2 3
+    ∷ refusedAt 2 1
+    ∷ refusedAt 2 1
+    ∷ refusedAt 2 3
+    ∷ refusedAt 2 1
+    ∷ refusedAt 5 1
+    ∷ []
+unfolding checkOf firstRefused linesOf readOf isLine numbersFrom fieldsLine digitsOf lastDigits runRefusal refusalOf modulus
+checks = refl
+
+-- 5 is at line 1, position 4; 49 at line 2, position 0; 985 and 16 nowhere
+lookups : map (lookupOf two) (5 ∷ 49 ∷ 985 ∷ 16 ∷ []) ≡ foundAt 1 4 ∷ foundAt 2 0 ∷ foundNone ∷ foundNone ∷ []
+unfolding lookupOf firstShowing positionOf least shows element step
+    checkOf firstRefused linesOf readOf isLine numbersFrom fieldsLine digitsOf lastDigits runRefusal refusalOf modulus
+lookups = refl
+
+-- the whole archive is checked first
+refusals :
+    map (λ bytes. lookupOf bytes 5) ([] ∷ damaged)
+    ≡ foundNone
+    ∷ lookupRefused 2 3
+    ∷ lookupRefused 2 3
+    ∷ lookupRefused 2 3
+    ∷ lookupRefused 2 1
+    ∷ lookupRefused 2 1
+    ∷ lookupRefused 2 3
+    ∷ lookupRefused 2 1
+    ∷ lookupRefused 5 1
+    ∷ []
+unfolding lookupOf firstShowing positionOf least shows element step
+    checkOf firstRefused linesOf readOf isLine numbersFrom fieldsLine digitsOf lastDigits runRefusal refusalOf modulus
+refusals = refl
+
+abbrev part : ℕ → ℕ → Part
+part start length = record { start = start; length = length }
+
+-- the lines by number and by place; of a refused archive none
+numbers : map (lineAt two) (0 ∷ 1 ∷ 2 ∷ 3 ∷ []) ≡ [] ∷ ascii "4,5,3,1,0,16\n" ∷ ascii "10,371,995,73,100,8\n" ∷ [] ∷ []
+unfolding lineAt numbered
+    checkOf firstRefused linesOf readOf isLine numbersFrom fieldsLine digitsOf lastDigits runRefusal refusalOf modulus
+numbers = refl
+
+places : map (placeOf two) (0 ∷ 1 ∷ 2 ∷ 3 ∷ []) ≡ part 0 0 ∷ part 0 13 ∷ part 13 20 ∷ part 0 0 ∷ []
+unfolding placeOf placeFrom
+    checkOf firstRefused linesOf readOf isLine numbersFrom fieldsLine digitsOf lastDigits runRefusal refusalOf modulus
+places = refl
+
+none : lineAt (two ++ ascii "\n") 1 ≡ []
+unfolding lineAt checkOf firstRefused linesOf readOf isLine numbersFrom fieldsLine digitsOf lastDigits runRefusal refusalOf modulus
+none = refl

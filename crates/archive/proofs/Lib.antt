@@ -1,8 +1,9 @@
--- `Passing` is for the crates above too.
+-- `Splitting` and `Folding` are for the crates above too.
 pub mod Splitting
-pub mod Passing
-pub mod Ahead
+pub mod Folding
+pub mod Checking
 pub mod Finding
+pub mod Looking
 pub mod Demands
-pub mod LinePlaces
+pub mod Placing
 mod Examples

@@ -1,37 +1,32 @@
--- An archive falls into its lines in one way only. A line has its byte 10 at its end and nowhere else, so the first part
--- of bytes that begin with a line is that line. Where two lists of accepted runs, each with some bytes behind that begin
--- with no accepted line, make the same bytes, the lists and the bytes behind are the same.
+-- Any bytes fall into lines: the first part, and the lines of what follows it. A line of a run has its byte 10 at its end
+-- and nowhere else, so the lines of an archive are those of its runs.
 use mathlib.Core.Path.{_≡_, refl, sym, ap, ap₂, _∙_}
 use mathlib.Core.Logic.{by-cases}
-use mathlib.Core.List.{List, [], _∷_, _++_, append-assoc, append-nil}
+use mathlib.Core.List.{List, [], _∷_, _++_, append-assoc, map}
 use mathlib.Core.List.{List·Memᴰ·head, List·Memᴰ·tail}
-use Prim.Native.Nat.{ℕ, suc, _+_, _≤_, _<_}
+use Prim.Native.Nat.{ℕ, suc, _+_, _-_, _≤_, _<_}
 use native.Mathlib.Decide.{ℕ-discrete}
 use native.Mathlib.Numerals.{add-one}
 use native.Mathlib.Omega.{arith}
-use lib.ListN.{length, take, drop, getD, length-append}
-use lib.Seq.{drop-cons, take-append-seam, drop-append-seam}
+use lib.ListN.{length, take, drop, getD, length-append, length-drop}
+use lib.Seq.{drop-cons, drop-drop, take-append-seam, drop-append-seam}
 use borrow.Author.Tests.{eq-eqb, ne-eqb}
 use Rattle.fields.specs.Digits.{digitsOf}
 use Rattle.fields.specs.Line.{fieldsLine}
 use Rattle.fields.proofs.Digits.{AllDigits, digits-bytes}
 use Rattle.lines.specs.declared.Run.{Run}
-use Rattle.lines.specs.Run.{runRefusal}
 use Rattle.lines.specs.Line.{lineOf}
-use Rattle.lines.specs.ReadLine.{RunReply, ReadPromise, runReply}
-use Rattle.lines.proofs.Runs.{valid-run, valid-words}
-use Rattle.lines.proofs.Reading.{line-run}
-use Rattle.archive.specs.Archive.{archiveOf, AllAccepted, IsArchive}
-use Rattle.archive.specs.Check.{firstPart}
+use Rattle.archive.specs.Archive.{onto, linesOf, archiveOf}
+use Rattle.archive.specs.Parts.{firstPart}
 
 -- First parts.
 
 -- a byte 10 ends the part, any other goes on
-pub part-ends : {b : ℕ} (bytes : List ℕ) → b ≡ 10 → firstPart (b ∷ bytes) ≡ b ∷ []
+part-ends : {b : ℕ} (bytes : List ℕ) → b ≡ 10 → firstPart (b ∷ bytes) ≡ b ∷ []
 unfolding firstPart
 part-ends {b} bytes e = rw (eq-eqb b 10 e)
 
-pub part-goes-on : {b : ℕ} (bytes : List ℕ) → (b ≡ 10 → ⊥) → firstPart (b ∷ bytes) ≡ b ∷ firstPart bytes
+part-goes-on : {b : ℕ} (bytes : List ℕ) → (b ≡ 10 → ⊥) → firstPart (b ∷ bytes) ≡ b ∷ firstPart bytes
 unfolding firstPart
 part-goes-on {b} bytes d = rw (ne-eqb b 10 d)
 
@@ -50,7 +45,7 @@ part-split (b ∷ bytes) =
     by-cases (ℕ-discrete b 10) (λ e. rw (part-ends bytes e) refl)
     (λ d. rw (part-goes-on bytes d) (ap (λ (l : List ℕ). b ∷ l) (part-split bytes)))
 
-pub take-part : (bytes : List ℕ) → take (length (firstPart bytes)) bytes ≡ firstPart bytes
+take-part : (bytes : List ℕ) → take (length (firstPart bytes)) bytes ≡ firstPart bytes
 take-part bytes =
     ap (take (length (firstPart bytes))) (part-split bytes) ∙ take-append-seam (firstPart bytes) _
 
@@ -86,86 +81,78 @@ pub part-line : (run : Run) (tail : List ℕ) → firstPart (lineOf run ++ tail)
 part-line run tail = part-fields _ _ tail
 
 -- a line has some bytes
-pub line-some : (run : Run) → 0 < length (lineOf run)
+line-some : (run : Run) → 0 < length (lineOf run)
 unfolding fieldsLine
 line-some run = simp length-append (omega arith)
 
--- Archives.
+-- What the machine reads from `at` to `end` is the first part there.
+module _ {at end : ℕ} (bytes : List ℕ) (l : at < length bytes) (e : end ≡ at + length (firstPart (drop at bytes))) where
+  pub part-read : take (end - at) (drop at bytes) ≡ firstPart (drop at bytes)
+  part-read =
+      let n : end - at ≡ length (firstPart (drop at bytes)) = omega arith in
+      ap (λ (k : ℕ). take k (drop at bytes)) n ∙ take-part (drop at bytes)
 
--- the bytes begin with no accepted line
-pub record Stops (rest : List ℕ) : Type 0 where
-  pub none : (run : Run) (tail : List ℕ) → runRefusal run ≡ 0 → rest ≡ lineOf run ++ tail → ⊥
+  pub part-within : (at ≤ end) × (end ≤ length bytes)
+  part-within = omega (arith, part-length (drop at bytes), length-drop at bytes)
 
--- no bytes, and bytes whose first part is refused
-pub stops-empty : Stops []
-stops-empty =
-    record { none = λ run tail a e. omega (arith, line-some run, simp length-append at (ap length e)) }
+  pub part-advances : at < end
+  part-advances = omega (arith, part-some (drop at bytes) (simp length-drop (omega arith)))
 
-pub stops-refused : {rest : List ℕ} {reply : RunReply} → ReadPromise (firstPart rest) reply → (reply .refusal ≡ 0 → ⊥) → Stops rest
-stops-refused {rest} {reply} r d =
-    record {
-      none = λ run tail a e.
-          d (ap (λ (p : RunReply). p .refusal)
-          (r .of-line run
-          (record { words = valid-words (valid-run run a); line = ap firstPart e ∙ part-line run tail })
-          ∙ ap (λ (n : ℕ). runReply n run) a));
-    }
+-- Lines.
 
--- bytes that begin with two lines begin with the same
-same-lines : {run other : Run} {xs ys : List ℕ} → lineOf run ++ xs ≡ lineOf other ++ ys → (run ≡ other) × (xs ≡ ys)
-same-lines {run} {other} {xs} {ys} e = (line-run line, tails)
-  where
-    line : lineOf run ≡ lineOf other
-    line = sym (part-line run xs) ∙ ap firstPart e ∙ part-line other ys
+line-ends : {b : ℕ} (bytes : List ℕ) → b ≡ 10 → linesOf (b ∷ bytes) ≡ (b ∷ []) ∷ linesOf bytes
+unfolding linesOf
+line-ends {b} bytes e = rw (eq-eqb b 10 e, linesOf)
 
-    tails : xs ≡ ys
-    tails =
-        sym (drop-append-seam (lineOf run) xs)
-        ∙ ap₂ (λ (l m : List ℕ). drop (length l) m) line e
-        ∙ drop-append-seam (lineOf other) ys
+line-goes-on : {b : ℕ} (bytes : List ℕ) → (b ≡ 10 → ⊥) → linesOf (b ∷ bytes) ≡ onto b (linesOf bytes)
+unfolding linesOf
+line-goes-on {b} bytes d = rw (ne-eqb b 10 d, linesOf)
 
-pub unique-front :
-    (runs others : List Run) {rest after : List ℕ} → AllAccepted runs → AllAccepted others → Stops rest → Stops after →
-    archiveOf runs ++ rest ≡ archiveOf others ++ after → (runs ≡ others) × (rest ≡ after)
-unfolding archiveOf
-unique-front [] [] a b s t e = (refl, e)
-unique-front [] (other ∷ others) {after = after} a b s t e =
-    absurd (s .none other (archiveOf others ++ after) (b .0) (e ∙ append-assoc (lineOf other) (archiveOf others) after))
-unique-front (run ∷ runs) [] {rest} a b s t e =
-    absurd (t .none run (archiveOf runs ++ rest) (a .0) (sym e ∙ append-assoc (lineOf run) (archiveOf runs) rest))
-unique-front (run ∷ runs) (other ∷ others) {rest} {after} a b s t e =
-    let h =
-    same-lines
-    (sym (append-assoc (lineOf run) (archiveOf runs) rest) ∙ e ∙ append-assoc (lineOf other) (archiveOf others) after) in
-    let k = unique-front runs others (a .1) (b .1) s t (h .1) in
-    (ap₂ (λ (r : Run) (rs : List Run). r ∷ rs) (h .0) (k .0), k .1)
+-- the first part and the lines of what follows it
+lines-first : (bytes : List ℕ) → 0 < length bytes → linesOf bytes ≡ firstPart bytes ∷ linesOf (drop (length (firstPart bytes)) bytes)
+lines-first [] l = absurd (omega arith)
+lines-first (b ∷ []) l =
+    by-cases (ℕ-discrete b 10) (λ e. rw (part-ends [] e) (line-ends [] e))
+    (λ d. rw (part-goes-on [] d) (line-goes-on [] d ∙ unfold linesOf firstPart in refl))
+lines-first (b ∷ c ∷ bytes) l =
+    let rest = lines-first (c ∷ bytes) (omega arith) in
+    by-cases (ℕ-discrete b 10) (λ e. rw (part-ends (c ∷ bytes) e) (line-ends (c ∷ bytes) e))
+    (λ d. rw (part-goes-on (c ∷ bytes) d) (line-goes-on (c ∷ bytes) d ∙ ap (onto b) rest))
 
--- an archive has one list of runs
-pub unique-runs : {bytes : List ℕ} {runs others : List Run} → IsArchive bytes runs → IsArchive bytes others → runs ≡ others
-unique-runs {runs = runs} {others} h k =
-    unique-front runs others (h .accepted) (k .accepted) stops-empty stops-empty
-    (append-nil (archiveOf runs) ∙ sym (h .lines) ∙ k .lines ∙ sym (append-nil (archiveOf others))) .0
+-- the same for what the machine reads
+pub lines-read : {at end : ℕ} (bytes : List ℕ) → at < length bytes → end ≡ at + length (firstPart (drop at bytes)) →
+    linesOf (drop at bytes) ≡ take (end - at) (drop at bytes) ∷ linesOf (drop end bytes)
+lines-read {at} {end} bytes l e =
+    lines-first (drop at bytes) (simp length-drop (omega arith))
+    ∙ ap₂ (λ (line rest : List ℕ). line ∷ linesOf rest) (sym (part-read bytes l e))
+    (drop-drop (length (firstPart (drop at bytes))) at bytes ∙ ap (λ (k : ℕ). drop k bytes) (sym e))
 
--- the archive of two lists, one after the other, and of one more line
-pub archive-append : (runs others : List Run) → archiveOf (runs ++ others) ≡ archiveOf runs ++ archiveOf others
-unfolding archiveOf
-archive-append [] others = refl
-archive-append (run ∷ runs) others =
-    ap (λ (l : List ℕ). lineOf run ++ l) (archive-append runs others)
-    ∙ sym (append-assoc (lineOf run) (archiveOf runs) (archiveOf others))
+-- one after the other the lines are the bytes
+unfoldable pub joined : List (List ℕ) → List ℕ
+joined [] = []
+joined (line ∷ lines) = line ++ joined lines
 
-pub archive-more : (runs : List Run) (run : Run) → archiveOf (runs ++ (run ∷ [])) ≡ archiveOf runs ++ lineOf run
-unfolding archiveOf
-archive-more runs run =
-    archive-append runs (run ∷ []) ∙ ap (λ (l : List ℕ). archiveOf runs ++ l) (append-nil (lineOf run))
+joined-onto : (b : ℕ) (lines : List (List ℕ)) → joined (onto b lines) ≡ b ∷ joined lines
+unfolding joined
+joined-onto b [] = refl
+joined-onto b (line ∷ lines) = refl
 
-pub accepted-more : (runs : List Run) (run : Run) → AllAccepted runs → runRefusal run ≡ 0 → AllAccepted (runs ++ (run ∷ []))
-accepted-more [] run a h = (h, tt)
-accepted-more (r ∷ runs) run a h = (a .0, accepted-more runs run (a .1) h)
+pub lines-joined : (bytes : List ℕ) → joined (linesOf bytes) ≡ bytes
+unfolding joined linesOf
+lines-joined [] = refl
+lines-joined (b ∷ bytes) =
+    let rest = lines-joined bytes in
+    by-cases (ℕ-discrete b 10) (λ e. ap joined (line-ends bytes e) ∙ ap (λ (l : List ℕ). b ∷ l) rest)
+    (λ d. ap joined (line-goes-on bytes d) ∙ joined-onto b (linesOf bytes) ∙ ap (λ (l : List ℕ). b ∷ l) rest)
 
--- each line has some bytes
-pub archive-length : (runs : List Run) → length runs ≤ length (archiveOf runs)
-unfolding archiveOf
-archive-length [] = omega arith
-archive-length (run ∷ runs) =
-    omega (arith, line-some run, archive-length runs, length-append (lineOf run) (archiveOf runs))
+-- the lines of an archive
+pub lines-archive : (runs : List Run) → linesOf (archiveOf runs) ≡ map lineOf runs
+unfolding archiveOf linesOf
+lines-archive [] = refl
+lines-archive (run ∷ runs) =
+    let rest = lines-archive runs in
+    let whole = lineOf run ++ archiveOf runs in
+    let part = part-line run (archiveOf runs) in
+    lines-first whole (omega (arith, line-some run, length-append (lineOf run) (archiveOf runs)))
+    ∙ ap₂ (λ (line : List ℕ) (lines : List (List ℕ)). line ∷ lines) part
+    (ap (λ (line : List ℕ). linesOf (drop (length line) whole)) part ∙ ap linesOf (drop-append-seam (lineOf run) (archiveOf runs)) ∙ rest)

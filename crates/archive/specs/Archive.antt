@@ -1,11 +1,28 @@
 -- An archive of document 01: zero or more lines, one after the other.
 use mathlib.Core.Path.{_≡_}
-use mathlib.Core.List.{List, [], _∷_, _++_}
+use mathlib.Core.Bool.{true, false}
+use mathlib.Core.List.{List, [], _∷_, _++_, map}
 use Prim.Native.Nat.{ℕ, zero, suc, _≤_}
+use lib.Dec.{eqb}
 use lib.ListN.{length}
 use Rattle.lines.specs.declared.Run.{Run}
 use Rattle.lines.specs.Run.{runRefusal}
 use Rattle.lines.specs.Line.{lineOf}
+use Rattle.lines.specs.ReadLine.{runIn}
+
+-- A byte in front of some lines.
+abbrev pub onto : ℕ → List (List ℕ) → List (List ℕ)
+onto b [] = (b ∷ []) ∷ []
+onto b (line ∷ lines) = (b ∷ line) ∷ lines
+
+-- The lines of any bytes: each ends with a byte 10, but for what stands behind the last one.
+unfoldable pub linesOf : List ℕ → List (List ℕ)
+linesOf [] = []
+linesOf (b ∷ bytes) = elim (eqb b 10) [ true ↦ (b ∷ []) ∷ linesOf bytes | false ↦ onto b (linesOf bytes) ]
+
+-- Their runs, if the archive is accepted.
+abbrev pub runsIn : List ℕ → List Run
+runsIn bytes = map runIn (linesOf bytes)
 
 unfoldable pub archiveOf : List Run → List ℕ
 archiveOf [] = []

@@ -1,7 +1,8 @@
--- What the contracts of this crate cite. All but `Searching` is what has to be believed of the calls; `Searching` is cited
--- by functions behind them only.
+-- What the contracts of this crate cite. All but `Searching` and `Parts` is what has to be believed of the calls; these two
+-- are cited by functions behind them only.
 pub mod Archive
 pub mod Check
 pub mod Line
 pub mod Lookup
 pub mod Searching
+pub mod Parts

@@ -1,31 +1,40 @@
--- The call `line`: a part of the archive itself.
+-- The call `line`: a part of the archive itself, the empty part if the archive is refused or has no such line.
 use mathlib.Core.Path.{_≡_}
-use mathlib.Core.Bool.{cond, _&&_}
-use mathlib.Core.List.{List, [], map}
-use Prim.Native.Nat.{ℕ, _+_, _-_, _≤_}
-use lib.Dec.{leb}
-use lib.ListN.{length, take}
+use mathlib.Core.Bool.{true, false}
+use mathlib.Core.List.{List, [], _∷_, map}
+use Prim.Native.Nat.{ℕ, zero, suc, _+_, _≤_}
+use lib.Dec.{eqb}
+use lib.ListN.{length, take, drop}
 use Rattle.lines.specs.declared.Run.{Run}
 use Rattle.lines.specs.Line.{lineOf}
 use Rattle.archive.specs.declared.Part.{Part}
-use Rattle.archive.specs.Archive.{archiveOf, IsArchive, numbered}
+use Rattle.archive.specs.Archive.{linesOf, IsArchive, numbered}
+use Rattle.archive.specs.Check.{checkOf}
 
--- Line k of the runs' archive; empty if there is no such line.
-unfoldable pub lineAt : List Run → ℕ → List ℕ
-lineAt runs k = numbered [] (map lineOf runs) k
+unfoldable pub lineAt : List ℕ → ℕ → List ℕ
+lineAt bytes n = elim (checkOf bytes .refusal) [ zero ↦ numbered [] (linesOf bytes) n | suc r ↦ [] ]
 
--- Where line k starts, behind the lines before it; 0 if there is no such line.
-unfoldable pub startOf : List Run → ℕ → ℕ
-startOf runs k = cond (leb 1 k && leb k (length runs)) (length (archiveOf (take (k - 1) runs))) 0
+-- The place of line n among the lines from the k-th on, which starts at `start`; the empty part starts at 0.
+unfoldable pub placeFrom : ℕ → ℕ → ℕ → List (List ℕ) → Part
+placeFrom n k start [] = record { start = 0; length = 0 }
+placeFrom n k start (line ∷ lines) =
+    elim (eqb k n) [
+      | true ↦ record { start = start; length = length line }
+      | false ↦ placeFrom n (suc k) (start + length line) lines
+    ]
+
+unfoldable pub placeOf : List ℕ → ℕ → Part
+placeOf bytes n =
+    elim (checkOf bytes .refusal) [ zero ↦ placeFrom n 1 0 (linesOf bytes) | suc r ↦ record { start = 0; length = 0 } ]
 
 -- The promise of the call: of an accepted archive the line with that number, of any other bytes the empty part.
-pub record LinePromise (bytes : List ℕ) (number : ℕ) (part : List ℕ) : Type 0 where
-  pub of-archive : (runs : List Run) → IsArchive bytes runs → part ≡ lineAt runs number
+pub record LinePromise (bytes : List ℕ) (n : ℕ) (part : List ℕ) : Type 0 where
+  pub equals : part ≡ lineAt bytes n
+  pub of-archive : (runs : List Run) → IsArchive bytes runs → part ≡ numbered [] (map lineOf runs) n
   pub of-others : ((runs : List Run) → IsArchive bytes runs → ⊥) → part ≡ []
 
--- The same part by its place in the archive; the empty part starts at 0.
-pub record PartPromise (bytes : List ℕ) (number : ℕ) (part : Part) : Type 0 where
+-- The same part by its place in the archive.
+pub record PartPromise (bytes : List ℕ) (n : ℕ) (part : Part) : Type 0 where
+  pub equals : part ≡ placeOf bytes n
   pub inside : part .start + part .length ≤ length bytes
-  pub of-archive : (runs : List Run) → IsArchive bytes runs →
-      (part .start ≡ startOf runs number) × (part .length ≡ length (lineAt runs number))
-  pub of-others : ((runs : List Run) → IsArchive bytes runs → ⊥) → (part .start ≡ 0) × (part .length ≡ 0)
+  pub meaning : take (part .length) (drop (part .start) bytes) ≡ lineAt bytes n

@@ -1,18 +1,19 @@
 -- The lookup: the earliest place in the archive that shows a number.
 use mathlib.Core.Path.{_≡_}
 use mathlib.Core.Logic.{_↔_, _⊎_}
-use mathlib.Core.Bool.{cond}
+use mathlib.Core.Bool.{true, false}
 use mathlib.Core.List.{List, [], _∷_}
-use Prim.Native.Nat.{ℕ, suc, _<_}
+use Prim.Native.Nat.{ℕ, zero, suc, _<_}
 use lib.Dec.{eqb, ltb}
 use Rattle.sequences.specs.Least.{least}
 use Rattle.generator.specs.Refusals.{numberOf}
 use Rattle.lines.specs.declared.Run.{Run}
 use Rattle.lines.specs.Run.{shows}
+use Rattle.lines.specs.Line.{noRun}
 use Rattle.archive.specs.declared.LookupAnswer.{LookupAnswer}
 use Rattle.archive.specs.declared.LookupAnswer.the-variants.{At, Nowhere, Refused}
-use Rattle.archive.specs.Archive.{IsArchive, numbered}
-use Rattle.archive.specs.Check.{CheckPromise}
+use Rattle.archive.specs.Archive.{runsIn, numbered}
+use Rattle.archive.specs.Check.{CheckReply, checkOf, Accepts}
 
 -- The least position of the run that shows y; its count if there is none.
 unfoldable pub positionOf : Run → ℕ → ℕ
@@ -31,24 +32,33 @@ foundAt line p = record { refusal = 0; line = line; found = 1; position = p }
 abbrev pub foundNone : LookupReply
 foundNone = record { refusal = 0; line = 0; found = 0; position = 0 }
 
+abbrev pub lookupRefused : ℕ → ℕ → LookupReply
+lookupRefused n line = record { refusal = n; line = line; found = 0; position = 0 }
+
 -- What an answer says.
 abbrev pub replyOf : LookupAnswer → LookupReply
 replyOf (At line p) = foundAt line p
 replyOf Nowhere = foundNone
-replyOf (Refused r line) = record { refusal = numberOf r; line = line; found = 0; position = 0 }
+replyOf (Refused r line) = lookupRefused (numberOf r) line
 
--- The first of the runs that shows y, numbered from `line` on, with its least position.
-unfoldable pub lookupOf : ℕ → List Run → ℕ → LookupReply
-lookupOf line [] y = foundNone
-lookupOf line (run ∷ runs) y =
-    cond (ltb (positionOf run y) (run .count)) (foundAt line (positionOf run y)) (lookupOf (suc line) runs y)
+-- The first of the runs that shows y, numbered from k on, with its least position.
+unfoldable pub firstShowing : ℕ → List Run → ℕ → LookupReply
+firstShowing k [] y = foundNone
+firstShowing k (run ∷ runs) y =
+    elim (ltb (positionOf run y) (run .count)) [
+      | true ↦ foundAt k (positionOf run y)
+      | false ↦ firstShowing (suc k) runs y
+    ]
 
--- What stands in for a line that is not there: a run with no position.
-abbrev pub noRun : Run
-noRun =
-    record { generator = record { width = 0; multiplier = 0; increment = 0; seed = 0 }; first = 0; count = 0 }
+unfoldable pub lookupOf : List ℕ → ℕ → LookupReply
+lookupOf bytes y =
+    elim (checkOf bytes .refusal) [
+      | zero ↦ firstShowing 1 (runsIn bytes) y
+      | suc n ↦ lookupRefused (suc n) (checkOf bytes .line)
+    ]
 
--- Document 01's place: a line number and a position of that line's run. A line that is not there has no position.
+-- Document 01's place: a line number and a position of that line's run. A line that is not there has no position, since
+-- noRun has none.
 pub record Shows (runs : List Run) (line p y : ℕ) : Type 0 where
   pub position : p < numbered noRun runs line .count
   pub value : shows (numbered noRun runs line) p ≡ y
@@ -67,13 +77,8 @@ pub record Demand3 (runs : List Run) (y : ℕ) (reply : LookupReply) : Type 0 wh
       Later line p (reply .line) (reply .position)
   pub none : (reply .found ≡ 0) ↔ ((line p : ℕ) → Shows runs line p y → ⊥)
 
--- The line that a reply's refusal concerns; 0 where nothing is refused.
-abbrev pub refusedLine : LookupReply → ℕ
-refusedLine reply = cond (eqb (reply .refusal) 0) 0 (reply .line)
-
 -- The promise of the call.
 pub record LookupPromise (bytes : List ℕ) (y : ℕ) (reply : LookupReply) : Type 0 where
-  pub check : CheckPromise bytes (reply .refusal) (refusedLine reply)
-  pub zeros : (reply .refusal ≡ 0 → ⊥) → (reply .found ≡ 0) × (reply .position ≡ 0)
-  pub equals : (runs : List Run) → IsArchive bytes runs → reply ≡ lookupOf 1 runs y
-  pub meaning : (runs : List Run) → IsArchive bytes runs → Demand3 runs y reply
+  pub equals : reply ≡ lookupOf bytes y
+  pub accepts : Accepts bytes (reply .refusal)
+  pub meaning : reply .refusal ≡ 0 → Demand3 (runsIn bytes) y reply

@@ -1,6 +1,5 @@
 // The archive: its check, its lines, and the lookup.
-ghost use Prim.Native.Nat.{ℕ};
-ghost use Rattle.archive.specs.Check.{Checked, refusalNumber, refusalLine};
+ghost use Rattle.archive.specs.Check.{CheckPromise, checkReply};
 ghost use Rattle.archive.specs.Line.{LinePromise, PartPromise};
 ghost use Rattle.archive.specs.Lookup.{LookupPromise, replyOf};
 use generator::Refusal;
@@ -28,7 +27,7 @@ pub struct Part {
 
 // The whole archive, line by line.
 pub fn checked(archive: &[u8]) -> ArchiveCheck
-    ensures { λ r. ⌜ Checked (now (archive .entry)) (refusalNumber r) (refusalLine r) ⌝ }
+    ensures { λ r. ⌜ CheckPromise (now (archive .entry)) (checkReply r) ⌝ }
 {
     if 65536 < archive.len() {
         return ArchiveCheck::Refused(Refusal::ArchiveTooLong, 0);

@@ -2,8 +2,9 @@
 ghost use mathlib.Core.Path.{_≡_};
 ghost use Prim.Native.Nat.{_+_, _<_};
 ghost use lib.ListN.{length, drop};
-ghost use Rattle.archive.specs.Check.{Readable, firstPart};
-ghost use Rattle.archive.specs.Line.{PartPromise};
+ghost use Rattle.archive.specs.Archive.{linesOf};
+ghost use Rattle.archive.specs.Line.{placeFrom};
+ghost use Rattle.archive.specs.Parts.{firstPart};
 use crate::Part;
 
 // Where the part that starts at `at` ends: behind its byte 10, or at the end of the bytes.
@@ -21,29 +22,22 @@ pub fn part_end(bytes: &[u8], at: usize) -> usize
     i
 }
 
-// The place of the line with that number in an accepted archive, by counting the lines down.
+// The place of the line with that number, whether the archive is accepted or not.
 pub fn line_place(archive: &[u8], number: u64) -> Part
-    requires { ⌜ Readable (now archive) ⌝ }
-    ensures { λ r. ⌜ PartPromise (now (archive .entry)) number r ⌝ }
+    ensures { λ r. ⌜ r ≡ placeFrom number 1 0 (linesOf (now (archive .entry))) ⌝ }
 {
-    if number == 0 {
-        return Part {
-            start: 0,
-            length: 0,
-        };
-    }
     let mut at = 0;
-    let mut left = number;
+    let mut k = 1;
     while at < archive.len() {
         let end = part_end(archive, at);
-        if left == 1 {
+        if k == number {
             return Part {
                 start: at,
                 length: end - at,
             };
         }
         at = end;
-        left -= 1;
+        k += 1;
     }
     Part {
         start: 0,

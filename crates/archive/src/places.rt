@@ -1,11 +1,11 @@
 // Places in an accepted archive.
 ghost use mathlib.Core.Path.{_≡_};
 ghost use Rattle.lines.specs.Run.{runRefusal};
-ghost use Rattle.archive.specs.Check.{Readable};
-ghost use Rattle.archive.specs.Lookup.{LookupPromise, replyOf};
+ghost use Rattle.archive.specs.Archive.{runsIn};
+ghost use Rattle.archive.specs.Check.{checkOf};
+ghost use Rattle.archive.specs.Lookup.{firstShowing, replyOf};
 ghost use Rattle.archive.specs.Searching.{PositionIn};
 use crate::LookupAnswer;
-use crate::Part;
 use crate::parts::part_end;
 use generator::kinds::restarted;
 use generator::kinds::value_of;
@@ -30,10 +30,10 @@ pub fn position_in(run: Run, y: u64) -> Position
     Position::Never
 }
 
-// The earliest place that shows y.
+// The earliest place in an accepted archive that shows y.
 pub fn earliest(archive: &[u8], y: u64) -> LookupAnswer
-    requires { ⌜ Readable (now archive) ⌝ }
-    ensures { λ r. ⌜ LookupPromise (now (archive .entry)) y (replyOf r) ⌝ }
+    requires { ⌜ checkOf (now archive) .refusal ≡ 0 ⌝ }
+    ensures { λ r. ⌜ replyOf r ≡ firstShowing 1 (runsIn (now (archive .entry))) y ⌝ }
 {
     let mut at = 0;
     let mut number = 1;

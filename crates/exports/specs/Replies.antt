@@ -36,12 +36,7 @@ abbrev pub runFields : RunReply → runs.RunReply
 runFields r =
     record {
       refusal = r .refusal;
-      width = r .width;
-      multiplier = r .multiplier;
-      increment = r .increment;
-      seed = r .seed;
-      first = r .first;
-      count = r .count;
+      run = runOf (generatorOf (r .width) (r .multiplier) (r .increment) (r .seed)) (r .first) (r .count);
     }
 
 abbrev pub lookupFields : LookupReply → places.LookupReply

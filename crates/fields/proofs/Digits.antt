@@ -13,6 +13,7 @@ use lib.Dec.{leb}
 use lib.ListN.{length, getD, drop, length-append}
 use borrow.Author.Tests.{lt-ltb, le-ltb, le-leb, lt-leb}
 use Rattle.fields.specs.Digits.{lastDigits, digitsOf}
+use Rattle.fields.specs.Line.{numbersFrom}
 
 -- The two rules.
 
@@ -225,3 +226,25 @@ field-unique {m = m} {n = n} {xs} {ys} stops stops' e =
 pub digits-prefix : (u v : ℕ) (xs ys : List ℕ) → Stops ys → digitsOf u ++ xs ≡ digitsOf v ++ ys → u ≤ v
 digits-prefix u v xs ys stops e =
     omega (arith, scan-grows u xs, ap (λ (p : ℕ × List ℕ). p .0) (scan-field u v xs ys stops e))
+
+-- The guess at a line's numbers goes on behind the digits that are scanned, if any byte is left there.
+after : ℕ × List ℕ → List ℕ
+after (v, []) = []
+after (v, b ∷ rest) = v ∷ numbersFrom 0 rest
+
+numbers-scan : (v : ℕ) (bytes : List ℕ) → numbersFrom v bytes ≡ after (scan v bytes)
+unfolding numbersFrom scan after
+numbers-scan v [] = refl
+numbers-scan v (b ∷ rest) = go (isDigit b) (numbers-scan (v * 10 + (b - 48)) rest)
+  where
+    go : (t : Bool) → numbersFrom (v * 10 + (b - 48)) rest ≡ after (scan (v * 10 + (b - 48)) rest) →
+        elim t [ true ↦ numbersFrom (v * 10 + (b - 48)) rest | false ↦ v ∷ numbersFrom 0 rest ]
+        ≡ after (cond t (scan (v * 10 + (b - 48)) rest) (v, b ∷ rest))
+    go true e = e
+    go false e = refl
+
+-- so it begins with the number of a field
+pub numbers-field : (v m : ℕ) (rest : List ℕ) → Stops (m ∷ rest) → numbersFrom 0 (digitsOf v ++ (m ∷ rest)) ≡ v ∷ numbersFrom 0 rest
+unfolding after
+numbers-field v m rest stops =
+    numbers-scan 0 (digitsOf v ++ (m ∷ rest)) ∙ ap after (scan-digits v (m ∷ rest) ∙ scan-stop v (m ∷ rest) stops)

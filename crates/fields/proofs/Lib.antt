@@ -1,5 +1,8 @@
--- `Digits` and `Line` have the laws of `specs/`; `Reading` and `Writing` what each step of the functions of `field` shows.
+-- `Digits` and `Numbers` have the laws of `specs/`; `Reading`, `Writing` and `Codec` what each step of the functions of
+-- `field` and `line` shows.
 pub mod Digits
-pub mod Line
+pub mod Numbers
 pub mod Reading
 pub mod Writing
+pub mod Codec
+mod Examples

@@ -1,4 +1,7 @@
--- What the contracts of this crate cite.
+-- What the contracts of this crate cite. `Digits` and `Line` are what has to be believed of a line, `Ascii` of a text;
+-- `Field` and `Codec` are cited by the functions behind the calls.
 pub mod Digits
-pub mod Field
 pub mod Line
+pub mod Ascii
+pub mod Field
+pub mod Codec

@@ -1,2 +1,3 @@
-// Fields of a line: decimal numbers with a mark behind each, read and written.
+// Decimal numbers with a mark behind each, read and written: a field, and a line of fields.
 pub mod field;
+pub mod line;

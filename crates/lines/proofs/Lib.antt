@@ -3,5 +3,5 @@ pub mod Runs
 pub mod Reading
 pub mod RoundTrip
 mod Written
-mod FieldByField
 mod Examples
+mod ReadExamples

@@ -1,91 +1,141 @@
--- What the six numbers read, or not, say of the promise of reading a line. A line has the numbers of no other, so the run
--- read is the only one whose line the bytes are.
+-- Reading a line, by its definition. The line of a run has that run's numbers, and where `isLine` accepts bytes they are the
+-- line of the run of the numbers guessed; so the definition has its meaning, and each way out of the call is the definition.
 use mathlib.Core.Path.{_≡_, refl, sym, ap, _∙_, subst}
-use mathlib.Core.List.{List}
-use mathlib.Core.Logic.{by-cases}
-use Prim.Native.Nat.{ℕ, zero, suc}
-use native.Mathlib.Decide.{ℕ-discrete}
-use lib.ListN.{getD}
+use mathlib.Core.Bool.{Bool, true, false}
+use mathlib.Core.List.{List, [], _∷_}
+use Prim.Native.Nat.{ℕ, zero, suc, _^_}
+use native.Mathlib.Omega.{arith}
+use lib.ListN.{length}
 use Rattle.generator.specs.declared.Refusal.{Refusal}
 use Rattle.generator.specs.declared.Refusal.the-variants.{MalformedLine}
 use Rattle.generator.specs.Refusals.{numberOf}
-use Rattle.generator.proofs.Replies.{number-suc, number-nonzero}
-use Rattle.fields.specs.Line.{NoLine}
-use Rattle.fields.proofs.Line.{line-injective}
+use Rattle.generator.proofs.Replies.{number-suc}
+use Rattle.fields.specs.Line.{AllBelow, fieldsLine, numbersFrom, isLine}
+use Rattle.fields.specs.Codec.{LineRead}
+use Rattle.fields.proofs.Numbers.{numbers-line, line-injective, is-line, line-is, no-test}
 use Rattle.lines.specs.declared.Run.{Run}
 use Rattle.lines.specs.declared.RunAnswer.{RunAnswer}
 use Rattle.lines.specs.declared.RunAnswer.the-variants.{Accepted, Refused}
 use Rattle.lines.specs.Run.{runRefusal}
-use Rattle.lines.specs.Line.{numbersOf, lineOf}
-use Rattle.lines.specs.ReadLine.{RunReply, IsLine, ReadPromise, acceptedRun, replyOf, runReply}
-
--- the run of six numbers
-runAt : List ℕ → Run
-runAt vs =
-    record {
-      generator =
-          record { width = getD vs 0 0; multiplier = getD vs 1 0; increment = getD vs 2 0; seed = getD vs 3 0 };
-      first = getD vs 4 0;
-      count = getD vs 5 0;
-    }
+use Rattle.lines.specs.Line.{numbersOf, lineOf, runAt}
+use Rattle.lines.proofs.Runs.{valid-run, valid-words}
+use Rattle.lines.specs.ReadLine.{
+  RunReply,
+  IsLine,
+  ReadPromise,
+  acceptedRun,
+  refusedRun,
+  replyOf,
+  runReply,
+  runIn,
+  readOf,
+}
 
 -- two runs with the same line are the same run
 pub line-run : {run other : Run} → lineOf run ≡ lineOf other → run ≡ other
-unfolding runAt
 line-run e = ap runAt (line-injective _ _ e)
 
-same-run : {bytes : List ℕ} {run other : Run} → IsLine bytes run → IsLine bytes other → run ≡ other
-same-run h k = line-run (sym (h .line) ∙ k .line)
+-- the six numbers of the run of six numbers
+six : (vs : List ℕ) → length vs ≡ 6 → numbersOf (runAt vs) ≡ vs
+six [] e = absurd (omega arith)
+six (a ∷ []) e = absurd (omega arith)
+six (a ∷ b ∷ []) e = absurd (omega arith)
+six (a ∷ b ∷ c ∷ []) e = absurd (omega arith)
+six (a ∷ b ∷ c ∷ d ∷ []) e = absurd (omega arith)
+six (a ∷ b ∷ c ∷ d ∷ f ∷ []) e = absurd (omega arith)
+six (a ∷ b ∷ c ∷ d ∷ f ∷ g ∷ []) e = refl
+six (a ∷ b ∷ c ∷ d ∷ f ∷ g ∷ h ∷ l) e = absurd (omega arith)
 
--- the refusal that a run's reply carries, and so an accepted line's run is accepted
+-- bytes that are a line, and any others
+in-line : {bytes : List ℕ} → isLine 6 bytes ≡ true → IsLine bytes (runIn bytes)
+in-line {bytes} t =
+    let l = is-line 6 t in
+    let e = sym (six (numbersFrom 0 bytes) (l .count)) in
+    record { words = subst (AllBelow (2 ^ 64)) e (l .small); line = l .line ∙ ap fieldsLine e }
+
+read-lines : (bytes : List ℕ) → isLine 6 bytes ≡ true → readOf bytes ≡ runReply (runRefusal (runIn bytes)) (runIn bytes)
+unfolding readOf
+read-lines bytes t = rw (t, readOf)
+
+read-others : (bytes : List ℕ) → isLine 6 bytes ≡ false → readOf bytes ≡ refusedRun 2
+unfolding readOf
+read-others bytes t = rw (t, readOf)
+
+-- The line of a run reads as that run or its refusal.
+pub read-of : {bytes : List ℕ} {run : Run} → IsLine bytes run → readOf bytes ≡ runReply (runRefusal run) run
+read-of {bytes} {run} h =
+    read-lines bytes (line-is 6 (numbersOf run) refl (h .words) (h .line))
+    ∙ ap (λ (r : Run). runReply (runRefusal r) r) (ap (λ (bs : List ℕ). runIn bs) (h .line) ∙ ap runAt (numbers-line (numbersOf run)))
+
 reply-refusal : (n : ℕ) (run : Run) → runReply n run .refusal ≡ n
 reply-refusal zero run = refl
 reply-refusal (suc n) run = refl
 
+reply-run : {n : ℕ} (run : Run) → n ≡ 0 → runReply n run .run ≡ run
+reply-run run e = rw e
+
+-- an accepted line is the line of the run in it, which is accepted
+pub accepted-line : (bytes : List ℕ) → readOf bytes .refusal ≡ 0 → (runRefusal (runIn bytes) ≡ 0) × IsLine bytes (runIn bytes)
+accepted-line bytes z = go (isLine 6 bytes) refl
+  where
+    go : (t : Bool) → isLine 6 bytes ≡ t → (runRefusal (runIn bytes) ≡ 0) × IsLine bytes (runIn bytes)
+    go true t =
+        (sym (ap (λ (r : RunReply). r .refusal) (read-lines bytes t) ∙ reply-refusal _ (runIn bytes)) ∙ z, in-line t)
+    go false t = absurd (omega (arith, ap (λ (r : RunReply). r .refusal) (read-others bytes t)))
+
+-- and the line of an accepted run reads as that run
+pub own-line : (run : Run) → runRefusal run ≡ 0 → IsLine (lineOf run) run
+own-line run z = record { words = valid-words (valid-run run z); line = refl }
+
+pub own-run : (run : Run) → runIn (lineOf run) ≡ run
+own-run run = ap runAt (numbers-line (numbersOf run))
+
+pub own-accepted : (run : Run) → runRefusal run ≡ 0 → readOf (lineOf run) .refusal ≡ 0
+own-accepted run z = ap (λ (r : RunReply). r .refusal) (read-of (own-line run z)) ∙ reply-refusal _ run ∙ z
+
+read-kept : (bytes : List ℕ) → ReadPromise bytes (readOf bytes)
+read-kept bytes =
+    record {
+      equals = refl;
+      of-line = λ run h. read-of h;
+      of-others = λ f. read-others bytes (no-test (isLine 6 bytes) (λ t. f (runIn bytes) (in-line t)));
+      accepted = λ z.
+          let a = accepted-line bytes z in
+          subst (IsLine bytes) (sym (ap (λ (r : RunReply). r .run) (read-of (a .1)) ∙ reply-run (runIn bytes) (a .0))) (a .1);
+    }
+
+read-promise : {bytes : List ℕ} {reply : RunReply} → reply ≡ readOf bytes → ReadPromise bytes reply
+read-promise {bytes} e = subst (ReadPromise bytes) (sym e) (read-kept bytes)
+
+-- an accepted line's run is accepted, and is the one in the bytes
 pub read-run : {bytes : List ℕ} {run : Run} → ReadPromise bytes (acceptedRun run) → runRefusal run ≡ 0
 read-run {run = run} r =
     sym (ap (λ (reply : RunReply). reply .refusal) (r .of-line run (r .accepted refl)) ∙ reply-refusal _ run)
+
+pub read-same-run : {bytes : List ℕ} {run : Run} → ReadPromise bytes (acceptedRun run) → runIn bytes ≡ run
+read-same-run {bytes} {run} r =
+    ap (λ (bs : List ℕ). runIn bs) (r .accepted refl .line) ∙ own-run run
 
 -- the promise of an answer that is known
 pub read-as : {bytes : List ℕ} {a : RunAnswer} (b : RunAnswer) → a ≡ b → ReadPromise bytes (replyOf a) → ReadPromise bytes (replyOf b)
 read-as {bytes} b e r = subst (λ (c : RunAnswer). ReadPromise bytes (replyOf c)) e r
 
--- the promise fixes the refusal: bytes that are a line and any others each have theirs
-pub read-same : {bytes : List ℕ} {reply other : RunReply} → ReadPromise bytes reply → ReadPromise bytes other →
-    reply .refusal ≡ other .refusal
-read-same {bytes} {reply} {other} r s = by-cases (ℕ-discrete (reply .refusal) (other .refusal)) (λ e. e) differ
-  where
-    refusal : RunReply → ℕ
-    refusal reply = reply .refusal
+-- The ways out of the call.
+module _ {bytes before numbers : List ℕ} {answer : Bool} (l : LineRead bytes before numbers answer) (six : length before ≡ 6) where
+  is : isLine 6 bytes ≡ answer
+  is = ap (λ (n : ℕ). isLine n bytes) (sym six) ∙ sym (l .is-line)
 
-    differ : (reply .refusal ≡ other .refusal → ⊥) → reply .refusal ≡ other .refusal
-    differ d =
-        let none : (run : Run) → IsLine bytes run → ⊥ =
-        λ run h. d (ap refusal (r .of-line run h ∙ sym (s .of-line run h))) in
-        ap refusal (r .of-others none ∙ sym (s .of-others none))
+  pub read-malformed : answer ≡ false → ReadPromise bytes (replyOf (Refused MalformedLine))
+  read-malformed f = read-promise (sym (read-others bytes (is ∙ f)))
 
-pub read-malformed : {bytes : List ℕ} → NoLine 6 bytes → ReadPromise bytes (replyOf (Refused MalformedLine))
-read-malformed n =
-    record {
-      of-line = λ run h. absurd (n .none (numbersOf run) refl (h .words) (h .line));
-      of-others = λ f. refl;
-      accepted = λ z. absurd (number-nonzero MalformedLine z);
-    }
+  module _ {run : Run} (t : answer ≡ true) (e : run ≡ runAt numbers) where
+    read : readOf bytes ≡ runReply (runRefusal run) run
+    read =
+        read-lines bytes (is ∙ t)
+        ∙ ap (λ (r : Run). runReply (runRefusal r) r) (ap runAt (sym (l .numbers t)) ∙ sym e)
 
-pub read-refused : {bytes : List ℕ} {run : Run} (x : Refusal) → IsLine bytes run → numberOf x ≡ runRefusal run →
-    ReadPromise bytes (replyOf (Refused x))
-read-refused {bytes} {run} x h e =
-    record {
-      of-line = λ other k. subst (λ (r : Run). replyOf (Refused x) ≡ runReply (runRefusal r) r) (same-run h k) (let j = number-suc x in rw (← e, j .1));
-      of-others = λ f. absurd (f run h);
-      accepted = λ z. absurd (number-nonzero x z);
-    }
+    pub read-refused : (x : Refusal) → numberOf x ≡ runRefusal run → ReadPromise bytes (replyOf (Refused x))
+    read-refused x r = read-promise (sym (read ∙ let j = number-suc x in rw (← r, j .1)))
 
-pub read-accepted : {bytes : List ℕ} {run : Run} → IsLine bytes run → runRefusal run ≡ 0 →
-    ReadPromise bytes (replyOf (Accepted run))
-read-accepted {bytes} {run} h e =
-    record {
-      of-line = λ other k. subst (λ (r : Run). replyOf (Accepted run) ≡ runReply (runRefusal r) r) (same-run h k) (rw e);
-      of-others = λ f. absurd (f run h);
-      accepted = λ z. h;
-    }
+    pub read-accepted : runRefusal run ≡ 0 → ReadPromise bytes (replyOf (Accepted run))
+    read-accepted r = read-promise (sym (read ∙ rw r))

@@ -19,7 +19,7 @@ use Rattle.generator.proofs.Replies.{number-suc}
 use Rattle.lines.specs.declared.Run.{Run}
 use Rattle.lines.specs.Run.{runRefusal}
 use Rattle.lines.specs.Line.{lineOf}
-use Rattle.lines.specs.ReadLine.{RunReply, ReadPromise, acceptedRun, refusedRun, runReply, runOf}
+use Rattle.lines.specs.ReadLine.{RunReply, ReadPromise, acceptedRun, refusedRun, runReply}
 use Rattle.lines.specs.WriteLine.{writeRefusal, bufferAfter, WritePromise}
 use Rattle.lines.proofs.Runs.{valid-run, valid-words, line-short}
 
@@ -63,7 +63,7 @@ pub read-writes :
     {bytes before after : List ℕ} {wrote : ValueReply} {reads : RunReply} →
     ReadPromise bytes reads →
     reads .refusal ≡ 0 →
-    WritePromise (runOf reads) before after wrote →
+    WritePromise (reads .run) before after wrote →
     wrote .refusal ≡ 0 →
     take (wrote .value) after ≡ bytes
 read-writes r z w y = written-line w y ∙ sym (r .accepted z .line)

@@ -1,6 +1,7 @@
 -- The line of a run, of six fields.
 use mathlib.Core.List.{List, [], _∷_}
 use Prim.Native.Nat.{ℕ, _^_}
+use lib.ListN.{getD}
 use Rattle.fields.specs.Line.{AllBelow, fieldsLine}
 use Rattle.lines.specs.declared.Run.{Run}
 
@@ -18,6 +19,21 @@ numbersOf run =
 abbrev pub lineOf : Run → List ℕ
 lineOf run = fieldsLine (numbersOf run)
 
+-- The run of six numbers.
+abbrev pub runAt : List ℕ → Run
+runAt vs =
+    record {
+      generator =
+          record { width = getD vs 0 0; multiplier = getD vs 1 0; increment = getD vs 2 0; seed = getD vs 3 0 };
+      first = getD vs 4 0;
+      count = getD vs 5 0;
+    }
+
 -- The six numbers are unsigned 64-bit numbers.
 abbrev pub Words : Run → Type 0
 Words run = AllBelow (2 ^ 64) (numbersOf run)
+
+-- The run of zeros, which stands in for one that is not there.
+abbrev pub noRun : Run
+noRun =
+    record { generator = record { width = 0; multiplier = 0; increment = 0; seed = 0 }; first = 0; count = 0 }

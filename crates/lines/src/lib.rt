@@ -6,11 +6,13 @@ ghost use Rattle.lines.specs.Run.{runRefusal};
 ghost use Rattle.lines.specs.ReadLine.{ReadPromise, replyOf};
 ghost use Rattle.lines.specs.WriteLine.{WritePromise};
 ghost use Rattle.lines.specs.Variety.{VarietyPromise};
+use fields::line;
 use generator::Check;
 use generator::Generator;
 use generator::Refusal;
 use generator::ValueAnswer;
-use numbers::Numbers;
+use numbers::numbers_of;
+use numbers::run_of;
 use orbits::kinds::cycle_of;
 
 pub mod numbers;
@@ -48,9 +50,11 @@ pub fn checked(run: Run) -> Check
 pub fn read_line(bytes: &[u8]) -> RunAnswer
     ensures { λ r. ⌜ ReadPromise (now (bytes .entry)) (replyOf r) ⌝ }
 {
-    let Numbers::Six(run) = numbers::read(bytes) else {
+    let mut numbers = [0u64; 6];
+    if !line::read(bytes, &mut numbers) {
         return RunAnswer::Refused(Refusal::MalformedLine);
-    };
+    }
+    let run = run_of(numbers);
     let verdict = checked(run);
     if let Check::Refused(refusal) = verdict {
         return RunAnswer::Refused(refusal);
@@ -66,10 +70,11 @@ pub fn write_line(run: Run, buffer: &mut [u8]) -> ValueAnswer
     if let Check::Refused(refusal) = verdict {
         return ValueAnswer::Refused(refusal);
     }
-    if buffer.len() < numbers::length(run) {
+    let numbers = numbers_of(run);
+    if buffer.len() < line::length(&numbers) {
         return ValueAnswer::Refused(Refusal::BufferTooShort);
     }
-    let n = numbers::write(buffer, run);
+    let n = line::write(buffer, &numbers);
     ValueAnswer::Value(n as u64)
 }
 

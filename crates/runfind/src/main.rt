@@ -1,23 +1,27 @@
 // Finds a number in the archive `archive.csv` of the current folder.
-use runfind_io::answer::answer;
+use runfind_io::decision::asked;
+use runfind_io::decision::decide;
+use runfind_io::input::Rest;
 use runfind_io::input::read_archive;
-use runfind_io::input::read_question;
+use runfind_io::input::read_input;
 use runfind_io::output::Outcome;
 use runfind_io::output::print_outcome;
 use runfind_io::question::Question;
 
-// The question is looked at first, then the archive.
+// The file is opened only if standard input holds a question.
 fn outcome() -> Outcome {
-    let Question::Number(value) = read_question() else {
-        return Outcome::BadQuestion;
+    let mut input = [0u8; 22];
+    let reading = read_input(&mut input);
+    let n = reading.n;
+    let behind = reading.rest;
+    let Question::Number(_) = asked(&input[..n], behind) else {
+        return decide(&input[..n], behind, b"", Rest::Failed);
     };
     let mut bytes = [0u8; 65537];
-    let reading = read_archive(&mut bytes);
-    if !reading.ok {
-        return Outcome::Unread;
-    }
-    let n = reading.n;
-    answer(&bytes[..n], value)
+    let archive = read_archive(&mut bytes);
+    let m = archive.n;
+    let beyond = archive.rest;
+    decide(&input[..n], behind, &bytes[..m], beyond)
 }
 
 fn main() {

@@ -1,16 +1,15 @@
--- What each step of writing a line to the front of a buffer shows: a word is copied, two fields are written one behind the
--- other, and what is written behind a word makes one line with it.
+-- What each step of writing a line to the front of a buffer shows: a word is copied, two numbers take at most 42 bytes, and
+-- what is written behind a word makes one line with it.
 use mathlib.Core.Path.{_≡_, sym, ap, ap₂, _∙_}
 use mathlib.Core.List.{List, [], _∷_, _++_, append-assoc, append-nil}
-use Prim.Native.Nat.{ℕ, _+_, _-_, _≤_}
+use Prim.Native.Nat.{ℕ, _+_, _-_, _^_, _≤_, _<_}
 use native.Mathlib.Omega.{arith}
 use native.Mathlib.Nat.{le-refl}
 use lib.ListN.{length, take, drop, length-append, length-drop, drop-of-length-le}
 use lib.Seq.{take-length, take-all, take-append-seam, drop-append-seam, drop-drop}
-use Rattle.fields.specs.Field.{Written}
 use Rattle.fields.specs.Line.{fieldsLine}
-use Rattle.fields.proofs.Line.{nothing-written, field-written, line-written}
-use Rattle.runfind_io.specs.Output.{FrontWritten}
+use Rattle.fields.specs.Codec.{FrontWritten}
+use Rattle.fields.proofs.Digits.{digits-length}
 
 pub within : {bytes before after : List ℕ} {n : ℕ} → FrontWritten bytes before after n → n ≤ length after
 within w = omega (arith, simp length-append at (ap length (w .whole)))
@@ -21,12 +20,11 @@ pub word-written :
     → FrontWritten word before after n
 word-written word before after n e copied = record { whole = rw take-length at copied; count = e }
 
-pub pair-written :
-    {before between after : List ℕ} {v w n m : ℕ} → Written before between 0 v 44 n → length between ≡ length before
-    → Written between after n w 10 m → FrontWritten (fieldsLine (v ∷ w ∷ [])) before after m
-pair-written {before} first kept second =
-    let line = line-written (field-written (nothing-written before) first kept) second in
-    record { whole = rw (← line .0) (line .1); count = line .0 }
+-- a field has at most 20 digits
+pub pair-short : (v w : ℕ) → v < 2 ^ 64 → w < 2 ^ 64 → length (fieldsLine (v ∷ w ∷ [])) ≤ 42
+unfolding fieldsLine
+pair-short v w p q =
+    simp length-append (omega (arith, digits-length v 19 (omega arith), digits-length w 19 (omega arith)))
 
 -- the line is written to the part of the buffer that follows the word
 pub line-behind :

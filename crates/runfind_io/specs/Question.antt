@@ -1,21 +1,18 @@
 -- A question is one field with its byte 10, and nothing else.
 use mathlib.Core.Path.{_≡_}
-use mathlib.Core.List.{List, [], _∷_, _++_}
+use mathlib.Core.Bool.{true, false}
+use mathlib.Core.List.{List, [], _∷_}
 use Prim.Native.Nat.{ℕ, _<_, _^_}
-use Rattle.fields.specs.Digits.{digitsOf}
+use lib.ListN.{getD}
+use Rattle.fields.specs.Line.{fieldsLine, numbersFrom, isLine}
 use Rattle.runfind_io.specs.declared.question.Question.{Question}
 use Rattle.runfind_io.specs.declared.question.Question.the-variants.{Number, Malformed}
 
--- the bytes are the question for v
-pub record Asks (bytes : List ℕ) (v : ℕ) : Type 0 where
-  pub small : v < 2 ^ 64
-  pub line : bytes ≡ digitsOf v ++ (10 ∷ [])
+unfoldable pub questionOf : List ℕ → Question
+questionOf bytes = elim (isLine 1 bytes) [ true ↦ Number (getD (numbersFrom 0 bytes) 0 0) | false ↦ Malformed ]
 
--- the bytes are the question for no number
-pub record AsksNone (bytes : List ℕ) : Type 0 where
-  pub none : (v : ℕ) → v < 2 ^ 64 → bytes ≡ digitsOf v ++ (10 ∷ []) → ⊥
-
--- what an answer says of the bytes
-abbrev pub QuestionOf : List ℕ → Question → Type 0
-QuestionOf bytes (Number v) = Asks bytes v
-QuestionOf bytes Malformed = AsksNone bytes
+-- The promise of reading one.
+pub record QuestionPromise (bytes : List ℕ) (question : Question) : Type 0 where
+  pub equals : question ≡ questionOf bytes
+  pub of-question : (v : ℕ) → v < 2 ^ 64 → bytes ≡ fieldsLine (v ∷ []) → question ≡ Number v
+  pub of-others : ((v : ℕ) → v < 2 ^ 64 → bytes ≡ fieldsLine (v ∷ []) → ⊥) → question ≡ Malformed

@@ -4,8 +4,9 @@ ghost use mathlib.Core.List.{[], _∷_};
 ghost use Prim.Native.Nat.{_≤_};
 ghost use lib.ListN.{length};
 ghost use Rattle.fields.specs.Line.{fieldsLine};
-ghost use Rattle.runfind_io.specs.Output.{FrontWritten, outcomeLine, refusedLine};
-use fields::field::write_field;
+ghost use Rattle.fields.specs.Codec.{FrontWritten};
+ghost use Rattle.runfind_io.specs.Output.{outcomeLine, refusedLine};
+use fields::line;
 
 pub enum Outcome {
     // The number of a line and a position.
@@ -20,7 +21,12 @@ pub enum Outcome {
 pub fn print_outcome(outcome: Outcome) {
     let mut buf = [0u8; 64];
     let n = write_outcome(&mut buf, outcome);
-    io::write_all(libc::STDOUT_FILENO, &buf[..n]);
+    if !io::write_all(libc::STDOUT_FILENO, &buf[..n]) {
+        io::write_all(
+            libc::STDERR_FILENO,
+            b"runfind: the answer could not be written\n",
+        );
+    }
 }
 
 pub fn write_outcome(buf: &mut [u8], outcome: Outcome) -> usize
@@ -44,13 +50,12 @@ fn write_refused(buf: &mut [u8], number: u64, line: u64) -> usize
     n + write_pair(&mut buf[n..], number, line)
 }
 
-// Writes two fields, the first with a comma and the second with the byte 10.
+// Writes the line of two numbers.
 fn write_pair(buf: &mut [u8], first: u64, second: u64) -> usize
     requires { ⌜ 42 ≤ length (now buf) ⌝ }
     ensures { λ r. ⌜ FrontWritten (fieldsLine (first ∷ second ∷ [])) (now (buf .entry)) (now (buf .exit)) r ⌝ }
 {
-    let n = write_field(buf, 0, first, 44);
-    write_field(buf, n, second, 10)
+    line::write(buf, &[first, second])
 }
 
 fn write_word(buf: &mut [u8], word: &[u8]) -> usize

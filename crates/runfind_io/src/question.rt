@@ -1,7 +1,6 @@
 // The question: one field with its byte 10, and nothing else.
-ghost use Rattle.runfind_io.specs.Question.{QuestionOf};
-use fields::field::Field;
-use fields::field::read_field;
+ghost use Rattle.runfind_io.specs.Question.{QuestionPromise};
+use fields::line;
 
 pub enum Question {
     Number(u64),
@@ -9,13 +8,11 @@ pub enum Question {
 }
 
 pub fn parse(bytes: &[u8]) -> Question
-    ensures { λ r. ⌜ QuestionOf (now (bytes .entry)) r ⌝ }
+    ensures { λ r. ⌜ QuestionPromise (now (bytes .entry)) r ⌝ }
 {
-    let Field::Number(v, next) = read_field(bytes, 0, 10) else {
-        return Question::Malformed;
-    };
-    if next < bytes.len() {
+    let mut numbers = [0u64; 1];
+    if !line::read(bytes, &mut numbers) {
         return Question::Malformed;
     }
-    Question::Number(v)
+    Question::Number(numbers[0])
 }

@@ -1,38 +1,40 @@
 // The numbers of a call.
-ghost use Prim.Native.Nat.{_≤_, _<_};
+ghost use Prim.Native.Nat.{_≤_};
 ghost use lib.ListN.{length};
 ghost use Rattle.vectors_io.specs.Bytes.{Within};
-use fields::field::Field;
-use fields::field::read_field;
+use fields::line;
 
-// Reads the numbers of a line from `from` on, and gives how many there are, 0 where one of them
-// does not read or there are more than fit.
-pub fn read(line: &[u8], from: usize, numbers: &mut [u64]) -> usize
+// Reads the numbers of a line, and gives how many there are, 0 where one of them does not read or
+// there are more than fit.
+pub fn read(line: &[u8], numbers: &mut [u64]) -> usize
     ensures { λ r. ⌜ r ≤ length (now (numbers .entry)) ⌝ }
 {
-    let mut at = from;
-    let mut n = 0;
-    while n < numbers.len() {
-        let Field::Number(v, next) = read_field(line, at, 44) else {
-            return read_last(line, at, numbers, n);
-        };
-        numbers[n] = v;
-        n += 1;
-        at = next;
+    let n = marks(line);
+    if numbers.len() < n {
+        return 0;
     }
-    0
+    if !line::read(line, &mut numbers[..n]) {
+        return 0;
+    }
+    n
 }
 
-// Reads the last number of a line as number n, and gives n + 1, or 0 where it does not read.
-fn read_last(line: &[u8], at: usize, numbers: &mut [u64], n: usize) -> usize
-    requires { ⌜ n < length (now numbers) ⌝ }
-    ensures { λ r. ⌜ r ≤ length (now (numbers .entry)) ⌝ }
-{
-    let Field::Number(v, _) = read_field(line, at, 10) else {
-        return 0;
-    };
-    numbers[n] = v;
-    n + 1
+// How many commas and bytes 10 there are.
+fn marks(line: &[u8]) -> usize {
+    let mut n = 0;
+    let mut i = 0;
+    while i < line.len() {
+        let b = line[i];
+        i += 1;
+        if b == 44 {
+            n += 1;
+            continue;
+        }
+        if b == 10 {
+            n += 1;
+        }
+    }
+    n
 }
 
 // What reading a list of bytes finds.

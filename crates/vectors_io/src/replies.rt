@@ -2,7 +2,7 @@
 ghost use mathlib.Core.Path.{_≡_};
 ghost use Prim.Native.Nat.{_+_, _*_, _≤_, _<_};
 ghost use lib.ListN.{length};
-use fields::field::write_field;
+use fields::line;
 
 // The numbers of a reply, by how many they are.
 pub enum Reply {
@@ -38,21 +38,9 @@ fn write_question(out: &mut [u8], at: usize) -> usize
 }
 
 // Writes numbers as a line. A field has 21 bytes at most.
-fn write_numbers(out: &mut [u8], from: usize, numbers: &[u64]) -> usize
-    requires { ⌜ from + 21 * length (now numbers) ≤ length (now out) ⌝ }
-    ensures { λ r. ⌜ r ≤ from + 21 * length (now (numbers .entry)) ⌝ }
+fn write_numbers(out: &mut [u8], at: usize, numbers: &[u64]) -> usize
+    requires { ⌜ at + 21 * length (now numbers) ≤ length (now out) ⌝ }
+    ensures { λ r. ⌜ r ≤ at + 21 * length (now (numbers .entry)) ⌝ }
 {
-    let mut at = from;
-    let mut i = 0;
-    while i < numbers.len() {
-        let v = numbers[i];
-        i += 1;
-        at = write_field(out, at, v, mark_before(numbers.len() - i));
-    }
-    at
-}
-
-// The mark of a field that n fields follow.
-fn mark_before(n: usize) -> u8 {
-    if n == 0 { 10 } else { b',' }
+    at + line::write(&mut out[at..], numbers)
 }

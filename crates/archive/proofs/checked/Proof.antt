@@ -1,4 +1,4 @@
--- `archive::checked` meets its contract: the loop's invariant is `Passed`.
+-- `archive::checked` meets its contract: the loop is a walk that seeks the first line that is refused.
 use borrow.Author.Needs.{needs}
 use Prim.Native.Nat.{_-_, _≤_}
 use native.Mathlib.Omega.{arith}
@@ -6,32 +6,23 @@ use denote.Ref.{now}
 use lib.ListN.{length}
 use Rattle.lines.specs.declared.RunAnswer.the-variants.{Accepted, Refused}
 use Rattle.lines.proofs.Reading.{read-as}
-use Rattle.archive.proofs.Passing.{
-  Passed,
-  part-advances,
-  part-within,
-  too-long-checked,
-  passed-start,
-  passed-few,
-  passed-line,
-  passed-refused,
-  passed-readable,
-  readable-checked,
-}
+use Rattle.archive.proofs.Splitting.{part-within, part-advances}
+use Rattle.archive.proofs.Folding.{Fold, fold-start}
+use Rattle.archive.proofs.Checking.{refusing, check-long, check-next, check-refused, check-end}
 use Rattle.archive.proofs.checked.Statement.{statement}
 use Rattle.archive.proofs.checked.Tie as tie
 
 abbrev Inv-loop : tie.InvT-loop
-Inv-loop archive at₀ number₀ at number = Passed archive at number
+Inv-loop archive at₀ number₀ at number = Fold refusing tt archive at number tt
 
 abbrev μ-loop : tie.MeasureT-loop
 μ-loop archive at₀ number₀ at number = length archive - at
 
 returns : tie.Need-returns Inv-loop μ-loop
-returns c = too-long-checked (c .if1 .taken)
+returns c = check-long (c .if1 .taken)
 
 loop-holds : tie.Need-loop-holds Inv-loop μ-loop
-loop-holds c = passed-start _
+loop-holds c = fold-start
 
 part-end-requires : tie.Need-part-end-requires Inv-loop μ-loop
 part-end-requires c κs = search needs
@@ -61,9 +52,9 @@ returns-2 c =
     let answer = c .before .answer .given in
     let read = c .before .before .before in
     let l = read .before .before .before in
-    passed-refused (l .before .loop .inv) (l .loop-test .taken) (read .before .before .part-end .ensures) (answer .0 .0)
-    (l .before .before .if1 .left)
+    check-refused (l .before .loop .inv) (l .loop-test .taken) (read .before .before .part-end .ensures) (answer .0 .0)
     (read-as (Refused _) (answer .1) (read .read-line .ensures))
+    (l .before .before .if1 .left)
 
 enum-told : tie.Need-enum-told Inv-loop μ-loop
 enum-told c = search needs
@@ -71,7 +62,7 @@ enum-told c = search needs
 add-number : tie.Need-add-number Inv-loop μ-loop
 add-number c =
     let l = c .before .before .before .before .before in
-    omega (arith, passed-few (l .before .loop .inv), l .loop-test .taken, l .before .before .if1 .left)
+    omega (arith, l .before .loop .inv .few, l .loop-test .taken, l .before .before .if1 .left)
 
 loop-less : tie.Need-loop-less Inv-loop μ-loop
 loop-less c =
@@ -82,11 +73,11 @@ loop-again : tie.Need-loop-again Inv-loop μ-loop
 loop-again c =
     let read = c .before .before in
     let l = read .before .before .before in
-    passed-line (l .before .loop .inv) (l .loop-test .taken) (read .before .before .part-end .ensures)
+    check-next (l .before .loop .inv) (l .loop-test .taken) (read .before .before .part-end .ensures)
     (read-as (Accepted _) (c .enum-told .given .1) (read .read-line .ensures))
 
 returns-3 : tie.Need-returns-3 Inv-loop μ-loop
-returns-3 c = readable-checked (passed-readable (c .before .loop .inv) (c .loop-test .left) (c .before .before .if1 .left))
+returns-3 c = check-end (c .before .loop .inv) (c .loop-test .left) (c .before .before .if1 .left)
 
 pub checked-spec : {M : Type 1} → statement M
 checked-spec =

@@ -1,7 +1,6 @@
 -- `archive::line` meets its contract: the part by its place is the part itself.
 use borrow.Author.Needs.{needs}
-use mathlib.Core.Path.{refl}
-use Rattle.archive.proofs.LinePlaces.{line-promise}
+use Rattle.archive.proofs.Placing.{line-of-part}
 use Rattle.archive.proofs.line.Statement.{statement}
 use Rattle.archive.proofs.line.Tie as tie
 
@@ -21,7 +20,7 @@ part-result-end : tie.Need-part-result-end
 part-result-end c = search needs
 
 returns : tie.Need-returns
-returns c = let p = c .before .before .line-part in line-promise (p .result) (p .ensures) refl
+returns c = let p = c .before .before .line-part in line-of-part _ (p .ensures)
 
 pub line-spec : {M : Type 1} → statement M
 line-spec =

@@ -1,10 +1,10 @@
 -- `archive::line_part` meets its contract.
 use borrow.Author.Needs.{needs}
-use mathlib.Core.Path.{refl}
-use Rattle.generator.proofs.Replies.{number-nonzero}
+use mathlib.Core.Path.{_≡_, sym, ap}
+use Rattle.archive.specs.Check.{CheckReply}
 use Rattle.archive.specs.declared.ArchiveCheck.the-variants.{Accepted, Refused}
-use Rattle.archive.proofs.Passing.{checked-as}
-use Rattle.archive.proofs.LinePlaces.{part-refused}
+use Rattle.archive.proofs.Checking.{check-as}
+use Rattle.archive.proofs.Placing.{part-found, part-refused}
 use Rattle.archive.proofs.line_part.Statement.{statement}
 use Rattle.archive.proofs.line_part.Tie as tie
 
@@ -17,16 +17,19 @@ enum-told c = search needs
 returns : tie.Need-returns
 returns c =
     let refused = c .enum-told .given in
-    part-refused (checked-as (Refused _ _) (refused .1) (c .before .before .checked .ensures) .promise) (number-nonzero (refused .0 .0))
+    part-refused _ _ (refused .0 .0) (check-as (Refused _ _) (refused .1) (c .before .before .checked .ensures))
 
 enum-told-2 : tie.Need-enum-told-2
 enum-told-2 c = search needs
 
 line-place-requires : tie.Need-line-place-requires
-line-place-requires c κs = checked-as Accepted (c .enum-told2 .given .1) (c .before .before .checked .ensures) .readable refl
+line-place-requires c κs = search needs
 
 returns-2 : tie.Need-returns-2
-returns-2 c = search needs
+returns-2 c =
+    let past = c .before in
+    part-found (ap (λ (r : CheckReply). r .refusal) (sym (check-as Accepted (past .enum-told2 .given .1) (past .before .before .checked .ensures))))
+    (c .line-place .ensures)
 
 pub line-part-spec : {M : Type 1} → statement M
 line-part-spec =

@@ -1,9 +1,11 @@
 -- `archive::lookup` meets its contract.
 use borrow.Author.Needs.{needs}
-use mathlib.Core.Path.{refl}
+use mathlib.Core.Path.{_≡_, sym, ap}
+use denote.Ref.{now}
+use Rattle.archive.specs.Check.{CheckReply, checkOf}
 use Rattle.archive.specs.declared.ArchiveCheck.the-variants.{Accepted, Refused}
-use Rattle.archive.proofs.Passing.{checked-as}
-use Rattle.archive.proofs.Demands.{lookup-refused}
+use Rattle.archive.proofs.Checking.{check-as}
+use Rattle.archive.proofs.Demands.{lookup-found, lookup-refused}
 use Rattle.archive.proofs.lookup.Statement.{statement}
 use Rattle.archive.proofs.lookup.Tie as tie
 
@@ -16,17 +18,21 @@ enum-known-verdict c = search needs
 returns : tie.Need-returns
 returns c =
     let verdict = c .before .verdict .given in
-    lookup-refused (verdict .0 .0) (verdict .0 .1 .0)
-    (checked-as (Refused _ _) (verdict .1) (c .before .before .before .checked .ensures) .promise)
+    lookup-refused (verdict .0 .0) (check-as (Refused _ _) (verdict .1) (c .before .before .before .checked .ensures))
 
 enum-told : tie.Need-enum-told
 enum-told c = search needs
 
+-- what holds past the check
+accepted : (c : tie.After-enum-told) → checkOf (now (c .before .before .before .before .args .archive)) .refusal ≡ 0
+accepted c =
+    ap (λ (r : CheckReply). r .refusal) (sym (check-as Accepted (c .enum-told .given .1) (c .before .before .checked .ensures)))
+
 earliest-requires : tie.Need-earliest-requires
-earliest-requires c κs = checked-as Accepted (c .enum-told .given .1) (c .before .before .checked .ensures) .readable refl
+earliest-requires c κs = accepted c
 
 returns-2 : tie.Need-returns-2
-returns-2 c = search needs
+returns-2 c = lookup-found (accepted (c .before)) (c .earliest .ensures)
 
 pub lookup-spec : {M : Type 1} → statement M
 lookup-spec =

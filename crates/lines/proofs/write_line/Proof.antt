@@ -1,12 +1,10 @@
 -- `lines::write_line` meets its contract.
-use borrow.Author.Needs.{needs}
 use mathlib.Core.Path.{_≡_}
-use borrow.Author.Tests.{lt-ltb, le-ltb}
-use Rattle.generator.specs.declared.Refusal.the-variants.{BufferTooShort}
 use Rattle.generator.proofs.Replies.{number-accepted, number-refused, refused-else}
 use Rattle.lines.specs.Run.{runRefusal}
 use Rattle.lines.specs.WriteLine.{writeRefusal}
-use Rattle.lines.proofs.Written.{write-refused, write-done}
+use Rattle.lines.proofs.Written.{write-refused, write-short, write-done}
+use borrow.Author.Needs.{needs}
 use Rattle.lines.proofs.write_line.Statement.{statement}
 use Rattle.lines.proofs.write_line.Tie as tie
 
@@ -30,14 +28,23 @@ enum-told c = search needs
 accepted : (c : tie.After-enum-told) → runRefusal (c .before .before .before .before .args .run) ≡ 0
 accepted c = number-accepted (c .before .before .checked .ensures) (c .enum-told .given .1)
 
+numbers-of-requires : tie.Need-numbers-of-requires
+numbers-of-requires c κs = search needs
+
+slice-aggregate-length : tie.Need-slice-aggregate-length
+slice-aggregate-length c = search needs
+
 length-requires : tie.Need-length-requires
 length-requires c κs = search needs
 
 returns-2 : tie.Need-returns-2
-unfolding writeRefusal
 returns-2 c =
-    write-refused _ _ BufferTooShort
-    (simp (accepted (c .before .before), lt-ltb _ _ (rw (c .before .length .ensures) at (c .if1 .taken))))
+    let n = c .before in
+    let l = n .before .before in
+    write-short _ (accepted (l .before)) (l .numbers-of .ensures) (n .length .ensures) _ (c .if1 .taken)
+
+slice-aggregate-write : tie.Need-slice-aggregate-write
+slice-aggregate-write c = search needs
 
 write-requires : tie.Need-write-requires
 write-requires c κs = search needs
@@ -46,14 +53,12 @@ same-length : tie.Need-same-length
 same-length c = search needs
 
 returns-3 : tie.Need-returns-3
-unfolding writeRefusal
 returns-3 c =
     let w = c .before .before in
-    let b = w .before .before in
-    write-done _ _
-    (simp (accepted (b .before .before), le-ltb _ _ (rw (b .before .length .ensures) at (b .if1 .left))))
-    (w .write .ensures .0)
-    (w .write .ensures .1)
+    let n = w .before .before .before .before in
+    let l = n .before .before in
+    write-done _ (accepted (l .before)) (l .numbers-of .ensures) (n .length .ensures) (w .before .before .before .if1 .left)
+    (w .write .ensures)
 
 pub write-line-spec : {M : Type 1} → statement M
 write-line-spec =
@@ -63,8 +68,11 @@ write-line-spec =
     enum-known-verdict
     returns
     enum-told
+    numbers-of-requires
+    slice-aggregate-length
     length-requires
     returns-2
+    slice-aggregate-write
     write-requires
     same-length
     returns-3)

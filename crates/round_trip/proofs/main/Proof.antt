@@ -46,13 +46,13 @@ unfolding runRefusal refusalOf modulus
 back c = sym (ap replyOf (c .before .back .given .1)) ∙ c .before .before .before .round-trip .ensures
 
 expect-requires-2 : tie.Need-expect-requires-2
-expect-requires-2 c κs = eq-eqb _ 371 (ap (λ (r : RunReply). r .multiplier) (back (c .before)))
+expect-requires-2 c κs = eq-eqb _ 371 (ap (λ (r : RunReply). r .run .generator .multiplier) (back (c .before)))
 
 expect-requires-3 : tie.Need-expect-requires-3
-expect-requires-3 c κs = eq-eqb _ 100 (ap (λ (r : RunReply). r .first) (back (c .before .before .before)))
+expect-requires-3 c κs = eq-eqb _ 100 (ap (λ (r : RunReply). r .run .first) (back (c .before .before .before)))
 
 expect-requires-4 : tie.Need-expect-requires-4
-expect-requires-4 c κs = eq-eqb _ 8 (ap (λ (r : RunReply). r .count) (back (c .before .before .before .before .before)))
+expect-requires-4 c κs = eq-eqb _ 8 (ap (λ (r : RunReply). r .run .count) (back (c .before .before .before .before .before)))
 
 returns-2 : tie.Need-returns-2
 returns-2 c = search needs

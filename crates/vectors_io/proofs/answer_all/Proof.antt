@@ -6,7 +6,7 @@ use native.Mathlib.Omega.{arith}
 use denote.Ref.{now}
 use borrow.Author.Needs.{needs}
 use lib.ListN.{length}
-use Rattle.archive.proofs.Passing.{part-within, part-advances}
+use Rattle.archive.proofs.Splitting.{part-within, part-advances}
 use Rattle.vectors_io.proofs.answer_all.Statement.{statement}
 use Rattle.vectors_io.proofs.answer_all.Tie as tie
 

@@ -1,52 +1,42 @@
--- `archive::parts::line_place` meets its contract: the loop's invariant is `Walked`.
-use borrow.Author.Needs.{needs}
+-- `archive::parts::line_place` meets its contract: the loop is a walk whose state is where the next line starts.
 use Prim.Native.Nat.{_-_}
 use native.Mathlib.Omega.{arith}
 use lib.ListN.{length}
-use Rattle.archive.proofs.Passing.{part-within, part-advances}
-use Rattle.archive.proofs.LinePlaces.{
-  Walked,
-  part-zero,
-  walked-start,
-  walked-here,
-  walked-next,
-  walked-end,
-}
+use Rattle.archive.proofs.Splitting.{part-within, part-advances}
+use Rattle.archive.proofs.Folding.{Fold, fold-start}
+use Rattle.archive.proofs.Placing.{placing, placed-here, placed-next, placed-end}
+use borrow.Author.Needs.{needs}
 use Rattle.archive.proofs.parts.line_place.Statement.{statement}
 use Rattle.archive.proofs.parts.line_place.Tie as tie
 
 abbrev Inv-loop : tie.InvT-loop
-Inv-loop archive number at₀ left₀ at left = Walked archive number at left
+Inv-loop archive number at₀ k₀ at k = Fold (placing number) 0 archive at k at
 
 abbrev μ-loop : tie.MeasureT-loop
-μ-loop archive number at₀ left₀ at left = length archive - at
-
-returns : tie.Need-returns Inv-loop μ-loop
-returns c = part-zero (c .before .before .pre) (c .if1 .taken)
+μ-loop archive number at₀ k₀ at k = length archive - at
 
 loop-holds : tie.Need-loop-holds Inv-loop μ-loop
-loop-holds c = walked-start (c .before .before .pre) (c .if1 .left)
+loop-holds c = fold-start
 
 part-end-requires : tie.Need-part-end-requires Inv-loop μ-loop
 part-end-requires c κs = search needs
 
-sub-t9 : tie.Need-sub-t9 Inv-loop μ-loop
-sub-t9 c = part-within _ (c .before .before .loop-test .taken) (c .before .part-end .ensures) .0
+sub-t8 : tie.Need-sub-t8 Inv-loop μ-loop
+sub-t8 c = search needs
 
-returns-2 : tie.Need-returns-2 Inv-loop μ-loop
-returns-2 c =
+returns : tie.Need-returns Inv-loop μ-loop
+returns c =
     let l = c .before .before in
-    walked-here (l .before .loop .inv) (l .loop-test .taken) (c .before .part-end .ensures) (c .if2 .taken)
+    placed-here _ (l .before .loop .inv) (l .loop-test .taken) (c .before .part-end .ensures) (c .if1 .taken)
 
-sub-left : tie.Need-sub-left Inv-loop μ-loop
-sub-left c = c .before .before .before .loop .inv .some
+add-k : tie.Need-add-k Inv-loop μ-loop
+add-k c = search needs
 
 loop-less : tie.Need-loop-less Inv-loop μ-loop
 loop-less c =
     let l = c .before .before in
     omega (
       arith,
-      l .loop-test .taken,
       part-advances _ (l .loop-test .taken) (c .before .part-end .ensures),
       part-within _ (l .loop-test .taken) (c .before .part-end .ensures),
     )
@@ -54,10 +44,10 @@ loop-less c =
 loop-again : tie.Need-loop-again Inv-loop μ-loop
 loop-again c =
     let l = c .before .before in
-    walked-next (l .before .loop .inv) (l .loop-test .taken) (c .before .part-end .ensures) (c .if2 .left)
+    placed-next _ (l .before .loop .inv) (l .loop-test .taken) (c .before .part-end .ensures) (c .if1 .left)
 
-returns-3 : tie.Need-returns-3 Inv-loop μ-loop
-returns-3 c = walked-end (c .before .loop .inv) (c .loop-test .left)
+returns-2 : tie.Need-returns-2 Inv-loop μ-loop
+returns-2 c = placed-end _ (c .before .loop .inv) (c .loop-test .left)
 
 pub line-place-spec : {M : Type 1} → statement M
 line-place-spec =
@@ -65,12 +55,11 @@ line-place-spec =
     (tie.spec
     Inv-loop
     μ-loop
-    returns
     loop-holds
     part-end-requires
-    sub-t9
-    returns-2
-    sub-left
+    sub-t8
+    returns
+    add-k
     loop-less
     loop-again
-    returns-3)
+    returns-2)

@@ -4,7 +4,7 @@ use mathlib.Core.Path.{_≡_}
 use Prim.Native.Nat.{_+_, _-_, _≤_}
 use native.Mathlib.Omega.{arith}
 use lib.ListN.{length, drop, length-drop}
-use Rattle.archive.specs.Check.{firstPart}
+use Rattle.archive.specs.Parts.{firstPart}
 use Rattle.archive.proofs.Splitting.{part-length, part-ends-at, part-goes-on-at}
 use Rattle.archive.proofs.parts.part_end.Statement.{statement}
 use Rattle.archive.proofs.parts.part_end.Tie as tie

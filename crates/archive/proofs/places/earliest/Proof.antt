@@ -1,6 +1,7 @@
--- `archive::places::earliest` meets its contract: the loop's invariant is `Left`.
+-- `archive::places::earliest` meets its contract: the loop is a walk that seeks the first run that shows y, and one that
+-- meets no line that is refused.
 use borrow.Author.Needs.{needs}
-use mathlib.Core.Path.{refl, subst}
+use mathlib.Core.Path.{subst}
 use Prim.Native.Nat.{_-_, _≤_}
 use native.Mathlib.Omega.{arith}
 use denote.Ref.{now}
@@ -8,22 +9,23 @@ use lib.ListN.{length, take, drop}
 use Rattle.lines.specs.declared.RunAnswer.the-variants.{Accepted, Refused}
 use Rattle.lines.specs.ReadLine.{ReadPromise, acceptedRun}
 use Rattle.lines.proofs.Reading.{read-as, read-run}
-use Rattle.archive.specs.Lookup.{foundAt, foundNone}
 use Rattle.archive.specs.Searching.{PositionIn}
-use Rattle.archive.proofs.Passing.{part-within, part-advances}
-use Rattle.archive.proofs.Finding.{Left, left-start, left-refused, left-next, left-found, left-none}
-use Rattle.archive.proofs.Demands.{lookup-promise}
+use Rattle.archive.proofs.Splitting.{part-within, part-advances}
+use Rattle.archive.proofs.Folding.{Fold, fold-start}
+use Rattle.archive.proofs.Checking.{refusing, check-next}
+use Rattle.archive.proofs.Looking.{showing, look-refused, look-next, look-found, look-end}
 use Rattle.archive.proofs.places.earliest.Statement.{statement}
 use Rattle.archive.proofs.places.earliest.Tie as tie
 
 abbrev Inv-loop : tie.InvT-loop
-Inv-loop archive y at₀ number₀ at number = Left archive y at number
+Inv-loop archive y at₀ number₀ at number =
+    Fold (showing y) tt archive at number tt × Fold refusing tt archive at number tt
 
 abbrev μ-loop : tie.MeasureT-loop
 μ-loop archive y at₀ number₀ at number = length archive - at
 
 loop-holds : tie.Need-loop-holds Inv-loop μ-loop
-loop-holds c = left-start _ (c .before .pre)
+loop-holds c = (fold-start, fold-start)
 
 part-end-requires : tie.Need-part-end-requires Inv-loop μ-loop
 part-end-requires c κs = search needs
@@ -56,7 +58,8 @@ returns c =
     let read = c .before .before in
     let l = read .before .before .before in
     absurd
-    (left-refused (l .before .loop .inv) (l .loop-test .taken) (read .before .before .part-end .ensures) (c .enum-told .given .0 .0)
+    (look-refused (l .before .before .before .pre) (l .before .loop .inv .1) (l .loop-test .taken) (read .before .before .part-end .ensures)
+    (c .enum-told .given .0 .0)
     (read-as (Refused _) (c .enum-told .given .1) (read .read-line .ensures)))
 
 -- the line that was read
@@ -78,9 +81,8 @@ returns-2 c =
     let found = c .before .position .given in
     let told = c .before .before .before .before in
     let p = told .before .before .before .before .before in
-    lookup-promise (foundAt _ _) refl (p .before .before .before .before .pre)
-    (left-found (p .before .before .loop .inv) (p .before .loop-test .taken) (p .part-end .ensures) (read told)
-    (subst (PositionIn _ _) (found .1) (c .before .before .before .position-in .ensures)))
+    look-found _ (p .before .before .loop .inv .0) (p .before .loop-test .taken) (p .part-end .ensures) (read told)
+    (subst (PositionIn _ _) (found .1) (c .before .before .before .position-in .ensures))
 
 enum-told-2 : tie.Need-enum-told-2 Inv-loop μ-loop
 enum-told-2 c = search needs
@@ -88,7 +90,7 @@ enum-told-2 c = search needs
 add-number : tie.Need-add-number Inv-loop μ-loop
 add-number c =
     let l = c .before .before .before .before .before .before .before .before .before in
-    omega (arith, l .before .loop .inv .few, l .loop-test .taken, l .before .before .before .pre .is .short)
+    omega (arith, l .before .loop .inv .0 .few, l .loop-test .taken)
 
 loop-less : tie.Need-loop-less Inv-loop μ-loop
 loop-less c =
@@ -99,12 +101,14 @@ loop-again : tie.Need-loop-again Inv-loop μ-loop
 loop-again c =
     let told = c .before .before .before in
     let p = told .before .before .before .before .before in
-    left-next (p .before .before .loop .inv) (p .before .loop-test .taken) (p .part-end .ensures) (read told)
-    (subst (PositionIn _ _) (c .enum-told2 .given .1) (c .before .before .position-in .ensures))
+    let w = p .before .before .loop .inv in (
+      look-next _ (w .0) (p .before .loop-test .taken) (p .part-end .ensures) (read told)
+          (subst (PositionIn _ _) (c .enum-told2 .given .1) (c .before .before .position-in .ensures)),
+      check-next (w .1) (p .before .loop-test .taken) (p .part-end .ensures) (read told),
+    )
 
 returns-3 : tie.Need-returns-3 Inv-loop μ-loop
-returns-3 c =
-    lookup-promise foundNone refl (c .before .before .before .pre) (left-none (c .before .loop .inv) (c .loop-test .left))
+returns-3 c = look-end _ (c .before .loop .inv .0) (c .loop-test .left)
 
 pub earliest-spec : {M : Type 1} → statement M
 earliest-spec =

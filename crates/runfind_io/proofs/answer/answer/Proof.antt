@@ -1,12 +1,8 @@
--- `answer::answer` meets its contract: each outcome prints as the lookup's reply.
+-- `answer::answer` meets its contract: each outcome is the one of the lookup's reply.
 use borrow.Author.Needs.{needs}
-use mathlib.Core.Path.{refl}
-use borrow.Author.Tests.{ne-eqb}
-use Rattle.generator.specs.Refusals.{numberOf}
-use Rattle.generator.proofs.Replies.{number-nonzero}
+use mathlib.Core.Path.{_∙_}
 use Rattle.archive.specs.declared.LookupAnswer.the-variants.{At, Nowhere, Refused}
-use Rattle.archive.specs.Lookup.{foundAt, foundNone, replyOf}
-use Rattle.archive.proofs.Demands.{lookup-as}
+use Rattle.runfind_io.proofs.Answering.{answered, refused-as}
 use Rattle.runfind_io.proofs.answer.answer.Statement.{statement}
 use Rattle.runfind_io.proofs.answer.answer.Tie as tie
 
@@ -26,29 +22,16 @@ number-requires : tie.Need-number-requires
 number-requires c κs = search needs
 
 returns : tie.Need-returns
-returns c =
-    record {
-      reply = foundAt _ _;
-      promise = lookup-as (At _ _) (c .before .found .given .1) (c .before .before .before .lookup .ensures);
-      line = refl;
-    }
+returns c = answered (At _ _) (c .before .found .given .1) (c .before .before .before .lookup .ensures)
 
 returns-2 : tie.Need-returns-2
-returns-2 c =
-    record {
-      reply = foundNone;
-      promise = lookup-as Nowhere (c .enum-told .given .1) (c .before .before .lookup .ensures);
-      line = refl;
-    }
+returns-2 c = answered Nowhere (c .enum-told .given .1) (c .before .before .lookup .ensures)
 
 returns-3 : tie.Need-returns-3
 returns-3 c =
     let refused = c .before .before .found2 .given in
-    record {
-      reply = replyOf (Refused (refused .0 .0) (refused .0 .1 .0));
-      promise = lookup-as (Refused _ _) (refused .1) (c .before .before .before .before .lookup .ensures);
-      line = rw (ne-eqb (numberOf (refused .0 .0)) 0 (number-nonzero (refused .0 .0)), c .number .ensures);
-    }
+    refused-as (refused .0 .0) (refused .0 .1 .0) (c .number .ensures)
+    ∙ answered (Refused _ _) (refused .1) (c .before .before .before .before .lookup .ensures)
 
 pub answer-spec : {M : Type 1} → statement M
 answer-spec =

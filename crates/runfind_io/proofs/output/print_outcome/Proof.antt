@@ -1,7 +1,7 @@
 -- `output::print_outcome` is safe and ends: the line is within the buffer.
-use borrow.Author.Needs.{needs}
 use Rattle.io.proofs.Counting.{counts}
 use Rattle.runfind_io.proofs.FrontWriting.{within}
+use borrow.Author.Needs.{needs}
 use Rattle.runfind_io.proofs.output.print_outcome.Statement.{statement}
 use Rattle.runfind_io.proofs.output.print_outcome.Tie as tie
 
@@ -20,8 +20,17 @@ slice-aggregate-write-all c = counts _ _ (within (c .before .before .write-outco
 write-all-requires : tie.Need-write-all-requires
 write-all-requires c κs = search needs
 
+slice-aggregate-write-all-2 : tie.Need-slice-aggregate-write-all-2
+slice-aggregate-write-all-2 c = search needs
+
+write-all-requires-2 : tie.Need-write-all-requires-2
+write-all-requires-2 c κs = search needs
+
 returns : tie.Need-returns
 returns c = search needs
+
+returns-2 : tie.Need-returns-2
+returns-2 c = search needs
 
 pub print-outcome-spec : {M : Type 1} → statement M
 print-outcome-spec =
@@ -32,4 +41,7 @@ print-outcome-spec =
     array-share-prefix-buf
     slice-aggregate-write-all
     write-all-requires
-    returns)
+    slice-aggregate-write-all-2
+    write-all-requires-2
+    returns
+    returns-2)

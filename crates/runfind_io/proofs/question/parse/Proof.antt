@@ -1,27 +1,26 @@
--- `question::parse` meets its contract: no field is read, or bytes follow it, or it is all that there is.
+-- `question::parse` meets its contract: the bytes are the line of one number, or not.
+use borrow.Author.Tests.{not-true, not-false}
+use mathlib.Core.Path.{refl}
+use Rattle.runfind_io.proofs.Asking.{malformed, question}
 use borrow.Author.Needs.{needs}
-use Rattle.runfind_io.proofs.Asking.{unreadable, longer, whole}
 use Rattle.runfind_io.proofs.question.parse.Statement.{statement}
 use Rattle.runfind_io.proofs.question.parse.Tie as tie
 
-read-field-requires : tie.Need-read-field-requires
-read-field-requires c κs = search needs
+slice-aggregate-read : tie.Need-slice-aggregate-read
+slice-aggregate-read c = search needs
 
-enum-known-v : tie.Need-enum-known-v
-enum-known-v c = search needs
-
-enum-told : tie.Need-enum-told
-enum-told c = search needs
+read-requires : tie.Need-read-requires
+read-requires c κs = search needs
 
 returns : tie.Need-returns
-returns c = unreadable _ (rw (c .enum-told .given .1) at (c .before .before .read-field .ensures))
+returns c = malformed (c .before .before .read .ensures) refl (not-true _ (c .if1 .taken))
+
+array-read-t9 : tie.Need-array-read-t9
+array-read-t9 c = search needs
 
 returns-2 : tie.Need-returns-2
-returns-2 c = longer _ (rw (c .before .before .v .given .1) at (c .before .before .before .before .read-field .ensures)) (c .if1 .taken)
-
-returns-3 : tie.Need-returns-3
-returns-3 c = whole _ (rw (c .before .before .v .given .1) at (c .before .before .before .before .read-field .ensures)) (c .if1 .left)
+returns-2 c = question (c .before .before .read .ensures) refl (not-false _ (c .if1 .left))
 
 pub parse-spec : {M : Type 1} → statement M
 parse-spec =
-    tie.close (tie.spec read-field-requires enum-known-v enum-told returns returns-2 returns-3)
+    tie.close (tie.spec slice-aggregate-read read-requires returns array-read-t9 returns-2)

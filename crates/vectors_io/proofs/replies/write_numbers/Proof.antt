@@ -1,74 +1,50 @@
--- `replies::write_numbers` meets its contract. The loop's invariant: the i fields before `at` have 21 bytes at most each. The measure is
--- what is left of the numbers.
-use mathlib.Core.Path.{_≡_}
-use Prim.Native.Nat.{_+_, _*_, _-_, _≤_}
+-- `replies::write_numbers` meets its contract: a line has at most 21 bytes for each number.
+use Prim.Native.Nat.{_*_, _≤_}
 use native.Mathlib.Omega.{arith}
+use denote.Ref.{now}
+use lib.ListN.{length, length-take, length-drop}
+use Rattle.fields.specs.Line.{fieldsLine}
+use Rattle.fields.proofs.Codec.{line-bound}
 use borrow.Author.Needs.{needs}
-use lib.ListN.{length, getD}
-use Rattle.fields.specs.Digits.{digitsOf}
-use Rattle.fields.proofs.Digits.{digits-length}
 use Rattle.vectors_io.proofs.replies.write_numbers.Statement.{statement}
 use Rattle.vectors_io.proofs.replies.write_numbers.Tie as tie
 
-abbrev Inv-loop : tie.InvT-loop
-Inv-loop out₀ from numbers at₀ i₀ out at i = (at ≤ from + 21 * i) × ((i ≤ length numbers) × (length out ≡ length out₀))
+sub-write : tie.Need-sub-write
+sub-write c = search needs
 
-abbrev μ-loop : tie.MeasureT-loop
-μ-loop out₀ from numbers at₀ i₀ out at i = length numbers - i
+part-write-start : tie.Need-part-write-start
+part-write-start c = search needs
 
--- a number has 20 digits at most
-short :
-    (c : tie.After-shared-slice-known2 Inv-loop μ-loop) →
-    length (digitsOf (getD (c .before .before .before .before .before .args .numbers .now) (c .before .before .loop .i) 0)) ≤ 20
-short c = digits-length _ 19 (omega (arith, c .shared-slice-known2 .given (c .before .before .loop .i)))
+part-write-end : tie.Need-part-write-end
+part-write-end c = search needs
 
-loop-holds : tie.Need-loop-holds Inv-loop μ-loop
-loop-holds c = search needs
+-- the line is no longer than what is asked for
+bound : (c : tie.After-shared-slice-known) →
+    length (fieldsLine (now (c .before .before .args .numbers))) ≤ 21 * length (now (c .before .before .args .numbers))
+bound c = line-bound _ (λ i l. omega (arith, c .shared-slice-known .given i))
 
-mul-v : tie.Need-mul-v Inv-loop μ-loop
-mul-v c = search needs
+write-requires : tie.Need-write-requires
+write-requires c κs = simp (length-take, length-drop) (omega (arith, bound (c .before)))
 
-shared-slice-read-v : tie.Need-shared-slice-read-v Inv-loop μ-loop
-shared-slice-read-v c = search needs
+add-result : tie.Need-add-result
+add-result c =
+    let w = c .before .before in
+    omega (arith, bound (w .before .before), w .write .ensures .count, w .before .before .before .before .pre)
 
-add-i : tie.Need-add-i Inv-loop μ-loop
-add-i c = search needs
-
-sub-mark-before : tie.Need-sub-mark-before Inv-loop μ-loop
-sub-mark-before c = search needs
-
-mark-before-requires : tie.Need-mark-before-requires Inv-loop μ-loop
-mark-before-requires c κs = search needs
-
-write-field-requires : tie.Need-write-field-requires Inv-loop μ-loop
-write-field-requires c κs = omega (arith, short (c .before .before))
-
-loop-less : tie.Need-loop-less Inv-loop μ-loop
-loop-less c = search needs
-
-loop-again : tie.Need-loop-again Inv-loop μ-loop
-loop-again c = omega (arith, short (c .before .before .before .before .before))
-
-same-length : tie.Need-same-length Inv-loop μ-loop
+same-length : tie.Need-same-length
 same-length c = search needs
 
-returns : tie.Need-returns Inv-loop μ-loop
-returns c = search needs
+returns : tie.Need-returns
+returns c = let w = c .before .before in omega (arith, bound (w .before .before), w .write .ensures .count)
 
 pub write-numbers-spec : {M : Type 1} → statement M
 write-numbers-spec =
     tie.close
     (tie.spec
-    Inv-loop
-    μ-loop
-    loop-holds
-    mul-v
-    shared-slice-read-v
-    add-i
-    sub-mark-before
-    mark-before-requires
-    write-field-requires
-    loop-less
-    loop-again
+    sub-write
+    part-write-start
+    part-write-end
+    write-requires
+    add-result
     same-length
     returns)

@@ -1,0 +1,148 @@
+-- The place of a line. The loop is a walk over the lines whose state is where the next one starts. Where a line is found,
+-- the bytes there are that line, since the lines before it take up what comes before.
+use mathlib.Core.Path.{_≡_, refl, sym, ap, _∙_, subst}
+use mathlib.Core.List.{List, [], _∷_, _++_, map, append-assoc}
+use Prim.Native.Nat.{ℕ, zero, suc, _+_, _-_, _≤_, _<_}
+use native.Mathlib.Omega.{arith}
+use lib.ListN.{length, take, drop, length-append, length-drop}
+use lib.Seq.{take-append-seam, drop-at, length-take-le}
+use borrow.Author.Tests.{eq-eqb, ne-eqb}
+use Rattle.generator.specs.declared.Refusal.{Refusal}
+use Rattle.generator.specs.Refusals.{numberOf}
+use Rattle.generator.proofs.Replies.{number-suc}
+use Rattle.lines.specs.declared.Run.{Run}
+use Rattle.lines.specs.Line.{lineOf}
+use Rattle.archive.specs.declared.Part.{Part}
+use Rattle.archive.specs.Archive.{linesOf, IsArchive, numbered}
+use Rattle.archive.specs.Check.{CheckReply, refusedAt, checkOf}
+use Rattle.archive.specs.Line.{lineAt, placeFrom, placeOf, LinePromise, PartPromise}
+use Rattle.archive.specs.Parts.{firstPart}
+use Rattle.archive.proofs.Splitting.{joined, lines-joined, lines-archive, part-within}
+use Rattle.archive.proofs.Folding.{Fold, fold-line, fold-next, fold-end}
+use Rattle.archive.proofs.Checking.{check-accepts}
+
+-- The line sought is the next one, or not.
+place-here : (n k start : ℕ) (line : List ℕ) (lines : List (List ℕ)) → k ≡ n →
+    placeFrom n k start (line ∷ lines) ≡ record { start = start; length = length line }
+unfolding placeFrom
+place-here n k start line lines e = rw (eq-eqb k n e, placeFrom)
+
+place-next : (n k start : ℕ) (line : List ℕ) (lines : List (List ℕ)) → (k ≡ n → ⊥) →
+    placeFrom n k start (line ∷ lines) ≡ placeFrom n (suc k) (start + length line) lines
+unfolding placeFrom
+place-next n k start line lines d = rw (ne-eqb k n d, placeFrom)
+
+-- The loop.
+abbrev pub placing : ℕ → ℕ → ℕ → List (List ℕ) → Part
+placing n k start lines = placeFrom n k start lines
+
+module _ {bytes : List ℕ} (n : ℕ) {at k : ℕ} (w : Fold (placing n) 0 bytes at k at) where
+  module _ {end : ℕ} (l : at < length bytes) (e : end ≡ at + length (firstPart (drop at bytes))) where
+    size : length (take (end - at) (drop at bytes)) ≡ end - at
+    size = length-take-le (end - at) (drop at bytes) (simp length-drop (omega (arith, part-within bytes l e)))
+
+    pub placed-here : k ≡ n → record { start = at; length = end - at } ≡ placeFrom n 1 0 (linesOf bytes)
+    placed-here q =
+        sym
+        (fold-line w l e ∙ place-here n k at _ (linesOf (drop end bytes)) q
+        ∙ ap {B = Part} (λ (j : ℕ). record { start = at; length = j }) size)
+
+    pub placed-next : (k ≡ n → ⊥) → Fold (placing n) 0 bytes end (k + 1) end
+    placed-next d =
+        let next : at + length (take (end - at) (drop at bytes)) ≡ end = omega (arith, size, part-within bytes l e) in
+        fold-next w l e end (λ lines. place-next n k at _ lines d ∙ ap (λ (j : ℕ). placeFrom n (suc k) j lines) next)
+
+  pub placed-end : length bytes ≤ at → record { start = 0; length = 0 } ≡ placeFrom n 1 0 (linesOf bytes)
+  placed-end l = sym (fold-end w l ∙ unfold placeFrom in refl)
+
+-- What stands at a place.
+record Holds (bytes line : List ℕ) (part : Part) : Type 0 where
+  inside : part .start + part .length ≤ length bytes
+  is : take (part .length) (drop (part .start) bytes) ≡ line
+
+nothing : (bytes : List ℕ) → Holds bytes [] (record { start = 0; length = 0 })
+nothing bytes = record { inside = omega arith; is = refl }
+
+-- a line before the next one has no place
+place-past : (n k start : ℕ) (lines : List (List ℕ)) → n < k → placeFrom n k start lines ≡ record { start = 0; length = 0 }
+place-past n k start [] l = unfold placeFrom in refl
+place-past n k start (line ∷ lines) l =
+    place-next n k start line lines (λ e. omega arith) ∙ place-past n (suc k) (start + length line) lines (omega arith)
+
+place-holds : (j k start : ℕ) (lines : List (List ℕ)) (before : List ℕ) → start ≡ length before →
+    Holds (before ++ joined lines) (numbered [] lines (suc j)) (placeFrom (k + j) k start lines)
+unfolding joined numbered placeFrom
+place-holds j k start [] before e = nothing (before ++ [])
+place-holds zero k start (line ∷ lines) before e =
+    subst (Holds (before ++ (line ++ joined lines)) line) (sym (place-here (k + 0) k start line lines (omega arith)))
+    (record {
+      inside = simp length-append (omega arith);
+      is = ap (take (length line)) (drop-at before (line ++ joined lines) start (sym e)) ∙ take-append-seam line (joined lines);
+    })
+place-holds (suc j) k start (line ∷ lines) before e =
+    let same : k + suc j ≡ suc k + j = omega arith in
+    let rest = place-holds j (suc k) (start + length line) lines (before ++ line) (simp length-append (omega arith)) in
+    subst (Holds (before ++ (line ++ joined lines)) (numbered [] lines (suc j)))
+    (sym (place-next (k + suc j) k start line lines (λ q. omega arith) ∙ ap (λ (n : ℕ). placeFrom n (suc k) (start + length line) lines) same))
+    (subst (λ (bs : List ℕ). Holds bs (numbered [] lines (suc j)) (placeFrom (suc k + j) (suc k) (start + length line) lines))
+    (append-assoc before line (joined lines)) rest)
+
+-- The promises of the calls.
+place-numbered : (bytes : List ℕ) (n : ℕ) → Holds bytes (numbered [] (linesOf bytes) n) (placeFrom n 1 0 (linesOf bytes))
+place-numbered bytes zero =
+    subst (Holds bytes (numbered [] (linesOf bytes) 0)) (sym (place-past 0 1 0 (linesOf bytes) (omega arith))) (unfold numbered in nothing bytes)
+place-numbered bytes (suc n) =
+    let same : 1 + n ≡ suc n = omega arith in
+    subst (λ (m : ℕ). Holds bytes (numbered [] (linesOf bytes) (suc n)) (placeFrom m 1 0 (linesOf bytes))) same
+    (subst (λ (bs : List ℕ). Holds bs (numbered [] (linesOf bytes) (suc n)) (placeFrom (1 + n) 1 0 (linesOf bytes))) (lines-joined bytes)
+    (place-holds n 1 0 (linesOf bytes) [] refl))
+
+part-promise : (bytes : List ℕ) (n : ℕ) → PartPromise bytes n (placeOf bytes n)
+part-promise bytes n = record { equals = refl; inside = h .inside; meaning = h .is }
+  where
+    go : (r : ℕ) → checkOf bytes .refusal ≡ r → Holds bytes (lineAt bytes n) (placeOf bytes n)
+    go zero e = unfold lineAt placeOf in rw (e, lineAt, placeOf) (place-numbered bytes n)
+    go (suc r) e = unfold lineAt placeOf in rw (e, lineAt, placeOf) (nothing bytes)
+
+    h : Holds bytes (lineAt bytes n) (placeOf bytes n)
+    h = go (checkOf bytes .refusal) refl
+
+-- past the check, and where it refuses
+pub part-found : {bytes : List ℕ} {n : ℕ} {part : Part} → checkOf bytes .refusal ≡ 0 → part ≡ placeFrom n 1 0 (linesOf bytes) →
+    PartPromise bytes n part
+part-found {bytes} {n} z e =
+    let place : placeOf bytes n ≡ placeFrom n 1 0 (linesOf bytes) = unfold placeOf in rw (z, placeOf) in
+    subst (PartPromise bytes n) (place ∙ sym e) (part-promise bytes n)
+
+pub part-refused : (bytes : List ℕ) (n : ℕ) (x : Refusal) {line : ℕ} → refusedAt (numberOf x) line ≡ checkOf bytes →
+    PartPromise bytes n (record { start = 0; length = 0 })
+part-refused bytes n x e = subst (PartPromise bytes n) place (part-promise bytes n)
+  where
+    check : checkOf bytes .refusal ≡ suc (number-suc x .0)
+    check = ap (λ (c : CheckReply). c .refusal) (sym e) ∙ number-suc x .1
+
+    place : placeOf bytes n ≡ record { start = 0; length = 0 }
+    place = unfold placeOf in rw (check, placeOf)
+
+-- the line itself, of an archive and of any other bytes
+line-promise : {bytes part : List ℕ} (n : ℕ) → part ≡ lineAt bytes n → LinePromise bytes n part
+line-promise {bytes} {part} n e = record { equals = e; of-archive = of-archive; of-others = of-others }
+  where
+    of-archive : (runs : List Run) → IsArchive bytes runs → part ≡ numbered [] (map lineOf runs) n
+    of-archive runs is =
+        let z = check-accepts bytes .others runs is .0 in
+        let there : lineAt bytes n ≡ numbered [] (linesOf bytes) n = unfold lineAt in rw (z, lineAt) in
+        e ∙ there ∙ ap (λ (ls : List (List ℕ)). numbered [] ls n) (ap linesOf (is .lines) ∙ lines-archive runs)
+
+    refused : ((runs : List Run) → IsArchive bytes runs → ⊥) → (r : ℕ) → checkOf bytes .refusal ≡ r → lineAt bytes n ≡ []
+    refused none zero q = absurd (none _ (check-accepts bytes .archive q))
+    refused none (suc r) q = unfold lineAt in rw (q, lineAt)
+
+    of-others : ((runs : List Run) → IsArchive bytes runs → ⊥) → part ≡ []
+    of-others none = e ∙ refused none (checkOf bytes .refusal) refl
+
+pub line-of-part : {bytes : List ℕ} {n : ℕ} (part : Part) → PartPromise bytes n part →
+    LinePromise bytes n (take (part .start + part .length - part .start) (drop (part .start) bytes))
+line-of-part {bytes} {n} part p =
+    let size : part .start + part .length - part .start ≡ part .length = omega arith in
+    line-promise n (ap (λ (k : ℕ). take k (drop (part .start) bytes)) size ∙ p .meaning)

@@ -1,0 +1,149 @@
+-- Which bytes are a line. The guess at the numbers of a line is right for every line, so the bytes are the line of n numbers
+-- below 2 ^ 64 exactly if `isLine n` says so, and the numbers are then the ones guessed. Field by field: bytes that begin
+-- with a field are a line if what follows is one with a field less, and bytes that begin with none are no line.
+use mathlib.Core.Path.{_≡_, refl, sym, ap, _∙_, subst}
+use mathlib.Core.Bool.{Bool, true, false, _&&_}
+use mathlib.Core.List.{List, [], _∷_, _++_}
+use Prim.Native.Nat.{ℕ, zero, suc, _^_, _≤_, _<_}
+use native.Mathlib.Omega.{arith}
+use lib.Dec.{eqb, ltb}
+use lib.ListN.{length}
+use borrow.Author.Tests.{eq-eqb, eqb-true, lt-ltb, ltb-true}
+use Rattle.fields.specs.Digits.{digitsOf}
+use Rattle.fields.specs.Field.{NoField}
+use Rattle.fields.specs.Line.{markBefore, fieldsLine, AllBelow, numbersFrom, allBelow, sameBytes, isLine}
+use Rattle.fields.proofs.Digits.{field-unique, numbers-field}
+
+mark-small : (n : ℕ) → markBefore n < 48
+mark-small zero = omega arith
+mark-small (suc n) = omega arith
+
+pub mark-under : {m : ℕ} (n : ℕ) → m ≡ markBefore n → m < 48
+mark-under n e = omega (arith, mark-small n)
+
+mark-stops : (n : ℕ) → 48 ≤ markBefore n → 57 < markBefore n
+mark-stops n h = absurd (omega (arith, mark-small n))
+
+-- The guess.
+
+-- every line has the numbers guessed, and so those of no other
+pub numbers-line : (vs : List ℕ) → numbersFrom 0 (fieldsLine vs) ≡ vs
+unfolding fieldsLine numbersFrom
+numbers-line [] = refl
+numbers-line (v ∷ vs) =
+    numbers-field v (markBefore (length vs)) (fieldsLine vs) (mark-stops (length vs)) ∙ ap (λ (ws : List ℕ). v ∷ ws) (numbers-line vs)
+
+pub line-injective : (vs ws : List ℕ) → fieldsLine vs ≡ fieldsLine ws → vs ≡ ws
+line-injective vs ws e = sym (numbers-line vs) ∙ ap (numbersFrom 0) e ∙ numbers-line ws
+
+-- Its tests.
+
+both : (a b : Bool) → (a && b) ≡ true → (a ≡ true) × (b ≡ true)
+both true b e = (refl, e)
+both false b e = absurd (let z : _≡_ {A = ℕ} 0 1 = cc in omega arith)
+
+below-test : (m : ℕ) (vs : List ℕ) → allBelow m vs ≡ true → AllBelow m vs
+below-test m [] e = tt
+below-test m (v ∷ vs) e = let p = both (ltb v m) (allBelow m vs) e in (ltb-true v m (p .0), below-test m vs (p .1))
+
+test-below : (m : ℕ) (vs : List ℕ) → AllBelow m vs → allBelow m vs ≡ true
+test-below m [] all = refl
+test-below m (v ∷ vs) all = rw (lt-ltb v m (all .0)) (test-below m vs (all .1))
+
+same-test : (bs cs : List ℕ) → sameBytes bs cs ≡ true → bs ≡ cs
+same-test [] [] e = refl
+same-test [] (c ∷ cs) e = absurd (let z : _≡_ {A = ℕ} 0 1 = cc in omega arith)
+same-test (b ∷ bs) [] e = absurd (let z : _≡_ {A = ℕ} 0 1 = cc in omega arith)
+same-test (b ∷ bs) (c ∷ cs) e =
+    let p = both (eqb b c) (sameBytes bs cs) e in
+    rw (eqb-true b c (p .0), same-test bs cs (p .1))
+
+test-same : (bs : List ℕ) → sameBytes bs bs ≡ true
+test-same [] = refl
+test-same (b ∷ bs) = rw (eq-eqb b b refl) (test-same bs)
+
+-- What the test says.
+pub record Line (n : ℕ) (bytes : List ℕ) : Type 0 where
+  pub count : length (numbersFrom 0 bytes) ≡ n
+  pub small : AllBelow (2 ^ 64) (numbersFrom 0 bytes)
+  pub line : bytes ≡ fieldsLine (numbersFrom 0 bytes)
+
+pub is-line : {bytes : List ℕ} (n : ℕ) → isLine n bytes ≡ true → Line n bytes
+unfolding isLine
+is-line {bytes} n e =
+    let vs = numbersFrom 0 bytes in
+    let p = both (eqb (length vs) n) (allBelow (2 ^ 64) vs && sameBytes (fieldsLine vs) bytes) e in
+    let q = both (allBelow (2 ^ 64) vs) (sameBytes (fieldsLine vs) bytes) (p .1) in
+    record {
+      count = eqb-true (length vs) n (p .0);
+      small = below-test (2 ^ 64) vs (q .0);
+      line = sym (same-test (fieldsLine vs) bytes (q .1));
+    }
+
+pub line-is : {bytes : List ℕ} (n : ℕ) (vs : List ℕ) → length vs ≡ n → AllBelow (2 ^ 64) vs → bytes ≡ fieldsLine vs → isLine n bytes ≡ true
+unfolding isLine
+line-is n vs count small e =
+    rw (e, numbers-line vs, eq-eqb (length vs) n count, test-below (2 ^ 64) vs small) (test-same (fieldsLine vs))
+
+-- two tests that follow from each other, and one from which nothing follows
+same-tests : (a b : Bool) → (a ≡ true → b ≡ true) → (b ≡ true → a ≡ true) → a ≡ b
+same-tests true b f g = sym (f refl)
+same-tests false true f g = g refl
+same-tests false false f g = refl
+
+pub no-test : (a : Bool) → (a ≡ true → ⊥) → a ≡ false
+no-test true f = absurd (f refl)
+no-test false f = refl
+
+-- Field by field.
+
+pub line-field : {bytes : List ℕ} (n v : ℕ) (rest : List ℕ) → v < 2 ^ 64 → bytes ≡ digitsOf v ++ (markBefore n ∷ rest) →
+    (isLine (suc n) bytes ≡ isLine n rest) × (numbersFrom 0 bytes ≡ v ∷ numbersFrom 0 rest)
+line-field {bytes} n v rest small e = (same-tests (isLine (suc n) bytes) (isLine n rest) shorter longer, guess)
+  where
+    guess : numbersFrom 0 bytes ≡ v ∷ numbersFrom 0 rest
+    guess = ap (numbersFrom 0) e ∙ numbers-field v (markBefore n) rest (mark-stops n)
+
+    shorter : isLine (suc n) bytes ≡ true → isLine n rest ≡ true
+    shorter h =
+        let l = is-line (suc n) h in
+        let ws = numbersFrom 0 rest in
+        let line : digitsOf v ++ (markBefore n ∷ rest) ≡ digitsOf v ++ (markBefore (length ws) ∷ fieldsLine ws) =
+        sym e ∙ l .line ∙ ap fieldsLine guess ∙ unfold fieldsLine in refl in
+        line-is n ws (omega (arith, l .count, ap length guess)) (subst (AllBelow (2 ^ 64)) guess (l .small) .1)
+        (field-unique (mark-stops n) (mark-stops (length ws)) line .2)
+
+    longer : isLine n rest ≡ true → isLine (suc n) bytes ≡ true
+    longer h =
+        let l = is-line n h in
+        let ws = numbersFrom 0 rest in
+        let line : fieldsLine (v ∷ ws) ≡ digitsOf v ++ (markBefore n ∷ rest) = unfold fieldsLine in rw (l .count, ← l .line) in
+        line-is (suc n) (v ∷ ws) (ap suc (l .count)) (small, l .small) (e ∙ sym line)
+
+-- no numbers whose line the bytes are, no line
+pub no-line : {bytes : List ℕ} (n : ℕ) → ((vs : List ℕ) → length vs ≡ n → AllBelow (2 ^ 64) vs → bytes ≡ fieldsLine vs → ⊥) →
+    isLine n bytes ≡ false
+no-line {bytes} n none =
+    no-test (isLine n bytes) (λ h. let l = is-line n h in none (numbersFrom 0 bytes) (l .count) (l .small) (l .line))
+
+pub line-no-field : {bytes : List ℕ} (n : ℕ) → NoField bytes (markBefore n) → isLine (suc n) bytes ≡ false
+unfolding fieldsLine
+line-no-field {bytes} n unreadable = no-line (suc n) none
+  where
+    none : (vs : List ℕ) → length vs ≡ suc n → AllBelow (2 ^ 64) vs → bytes ≡ fieldsLine vs → ⊥
+    none [] count small e = omega arith
+    none (v ∷ vs) count small e =
+        let k : length vs ≡ n = omega arith in
+        unreadable .none v (fieldsLine vs) (small .0) (rw k at e)
+
+-- no bytes are the line of no numbers, and no others are
+pub line-none : isLine 0 [] ≡ true
+line-none = line-is 0 [] refl tt (unfold fieldsLine in refl)
+
+pub line-some : (bytes : List ℕ) → 0 < length bytes → isLine 0 bytes ≡ false
+unfolding fieldsLine
+line-some bytes some = no-line 0 none
+  where
+    none : (vs : List ℕ) → length vs ≡ 0 → AllBelow (2 ^ 64) vs → bytes ≡ fieldsLine vs → ⊥
+    none [] count small e = omega (arith, ap length e)
+    none (v ∷ vs) count small e = omega arith

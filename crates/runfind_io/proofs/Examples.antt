@@ -1,0 +1,55 @@
+-- What the program prints for document 01's archive and some questions, computed.
+use mathlib.Core.Path.{_≡_, refl}
+use mathlib.Core.List.{List, [], _∷_, map}
+use Prim.Native.Nat.{ℕ}
+use Rattle.sequences.specs.Least.{least}
+use Rattle.generator.specs.Recurrence.{modulus, step, element}
+use Rattle.generator.specs.Refusals.{refusalOf}
+use Rattle.fields.specs.Ascii.{ascii}
+use Rattle.fields.specs.Digits.{lastDigits, digitsOf}
+use Rattle.fields.specs.Line.{fieldsLine, numbersFrom, isLine}
+use Rattle.lines.specs.Run.{shows, runRefusal}
+use Rattle.lines.specs.ReadLine.{readOf}
+use Rattle.archive.specs.Archive.{linesOf}
+use Rattle.archive.specs.Check.{firstRefused, checkOf}
+use Rattle.archive.specs.Lookup.{positionOf, firstShowing, lookupOf}
+use Rattle.runfind_io.specs.declared.question.Question.the-variants.{Number, Malformed}
+use Rattle.runfind_io.specs.Decision.{Source, holds, unreadable, askedOf, outcomeFor}
+use Rattle.runfind_io.specs.Output.{outcomeLine}
+use Rattle.runfind_io.specs.Question.{questionOf}
+
+-- the largest question, and bytes that are none
+questions :
+    map questionOf
+    (ascii "18446744073709551615\n"
+    ∷ ascii "18446744073709551616\n"
+    ∷ ascii "18446744073709551615\nx"
+    ∷ ascii "5"
+    ∷ ascii "05\n"
+    ∷ ascii "5\r\n"
+    ∷ ascii "\n"
+    ∷ ascii ""
+    ∷ [])
+    ≡ Number 18446744073709551615 ∷ Malformed ∷ Malformed ∷ Malformed ∷ Malformed ∷ Malformed ∷ Malformed ∷ Malformed ∷ []
+unfolding questionOf isLine numbersFrom fieldsLine digitsOf lastDigits
+questions = refl
+
+-- a question, and what the file holds
+abbrev printed : List ℕ → Source → List ℕ
+printed input file = outcomeLine (outcomeFor (askedOf (holds input)) file)
+
+abbrev two : Source
+two = holds (ascii "4,5,3,1,0,16\n10,371,995,73,100,8\n")
+
+answers :
+    printed (ascii "5\n") two
+    ∷ printed (ascii "49\n") two
+    ∷ printed (ascii "985\n") two
+    ∷ printed (ascii "5\n") (holds (ascii "4,5,3,1,0,16\n4,5,3"))
+    ∷ printed (ascii "5\n") unreadable
+    ∷ printed (ascii "5") unreadable
+    ∷ []
+    ≡ ascii "1,4\n" ∷ ascii "2,0\n" ∷ ascii "none\n" ∷ ascii "refused,2,2\n" ∷ ascii "unread\n" ∷ ascii "question\n" ∷ []
+unfolding questionOf lookupOf firstShowing positionOf least shows element step
+    checkOf firstRefused linesOf readOf isLine numbersFrom fieldsLine digitsOf lastDigits runRefusal refusalOf modulus
+answers = refl

@@ -13,7 +13,8 @@ use Rattle.generator.specs.Refusals.{numberOf}
 use Rattle.generator.proofs.Replies.{number-nonzero}
 use Rattle.lines.specs.declared.Run.{Run}
 use Rattle.lines.specs.Line.{lineOf}
-use Rattle.lines.specs.ReadLine.{RunReply, ReadPromise, acceptedRun, refusedRun, runIn, readOf}
+use Rattle.lines.specs.declared.RunReply.{RunReply}
+use Rattle.lines.specs.ReadLine.{ReadPromise, acceptedRun, refusedRun, runIn, readOf}
 use Rattle.lines.proofs.Reading.{accepted-line, own-run, own-accepted}
 use Rattle.archive.specs.declared.ArchiveCheck.{ArchiveCheck}
 use Rattle.archive.specs.declared.ArchiveCheck.the-variants.{Accepted, Refused}

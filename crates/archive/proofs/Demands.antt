@@ -17,19 +17,8 @@ use Rattle.lines.specs.declared.Run.{Run}
 use Rattle.lines.specs.Run.{shows}
 use Rattle.archive.specs.Archive.{runsIn, numbered}
 use Rattle.archive.specs.Check.{CheckReply, refusedAt, checkOf, Accepts}
-use Rattle.archive.specs.Lookup.{
-  positionOf,
-  LookupReply,
-  foundAt,
-  foundNone,
-  lookupRefused,
-  firstShowing,
-  lookupOf,
-  Shows,
-  Later,
-  Demand3,
-  LookupPromise,
-}
+use Rattle.archive.specs.declared.LookupReply.{LookupReply}
+use Rattle.archive.specs.Lookup.{positionOf, foundAt, foundNone, lookupRefused, firstShowing, lookupOf, Shows, Later, Demand3, LookupPromise}
 use Rattle.archive.proofs.Checking.{long-check, check-accepts}
 use Rattle.archive.proofs.Looking.{lookup-next, lookup-here}
 

@@ -14,7 +14,8 @@ use Rattle.lines.specs.ReadLine.{ReadPromise, acceptedRun, refusedRun, runIn}
 use Rattle.lines.proofs.Reading.{read-same-run}
 use Rattle.archive.specs.Archive.{linesOf, runsIn}
 use Rattle.archive.specs.Check.{CheckReply, checkOf}
-use Rattle.archive.specs.Lookup.{positionOf, LookupReply, foundAt, foundNone, firstShowing}
+use Rattle.archive.specs.declared.LookupReply.{LookupReply}
+use Rattle.archive.specs.Lookup.{positionOf, foundAt, foundNone, firstShowing}
 use Rattle.archive.specs.Parts.{firstPart}
 use Rattle.archive.proofs.Folding.{Fold, fold-line, fold-next, fold-end}
 use Rattle.archive.proofs.Checking.{refusing, check-lines, check-here}

@@ -14,18 +14,14 @@ use Rattle.archive.specs.declared.LookupAnswer.{LookupAnswer}
 use Rattle.archive.specs.declared.LookupAnswer.the-variants.{At, Nowhere, Refused}
 use Rattle.archive.specs.Archive.{runsIn, numbered}
 use Rattle.archive.specs.Check.{CheckReply, checkOf, Accepts}
+use Rattle.archive.specs.declared.LookupReply.{LookupReply}
 
 -- The least position of the run that shows y; its count if there is none.
 unfoldable pub positionOf : Run → ℕ → ℕ
 positionOf run y = least (λ p. eqb (shows run p) y) (run .count)
 
--- The refusal's number, 0 for none; the line of the place found or of the refusal; 1 if found, 0 for none; the position.
-pub record LookupReply : Type 0 where
-  pub refusal : ℕ
-  pub line : ℕ
-  pub found : ℕ
-  pub position : ℕ
-
+-- The replies: a refusal's number, 0 for none; the line of the place found or of the refusal; 1 if found, 0 for none; the
+-- position.
 abbrev pub foundAt : ℕ → ℕ → LookupReply
 foundAt line p = record { refusal = 0; line = line; found = 1; position = p }
 

@@ -7,6 +7,7 @@ use lines::RunAnswer;
 
 pub mod parts;
 pub mod places;
+pub mod plain;
 
 pub enum ArchiveCheck {
     Accepted,
@@ -19,7 +20,18 @@ pub enum LookupAnswer {
     Refused(Refusal, u64),
 }
 
+// The same in plain numbers: the refusal's number, 0 for none; the line of the place or of the refusal; found is 0 for none;
+// zeros beside a refusal.
+#[repr(C)]
+pub struct LookupReply {
+    pub refusal: u64,
+    pub line: u64,
+    pub found: u64,
+    pub position: u64,
+}
+
 // A part of the archive, by its first byte and its length.
+#[repr(C)]
 pub struct Part {
     pub start: usize,
     pub length: usize,

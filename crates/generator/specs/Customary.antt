@@ -6,7 +6,8 @@ use Prim.Native.Nat.{ℕ, suc, _+_, _*_, _^_, _≤_, _<_}
 use lib.Dec.{leb, ltb}
 use lib.ListN.{getD}
 use Rattle.sequences.specs.Least.{least}
-use Rattle.generator.specs.Replies.{ValueReply, valueReply}
+use Rattle.generator.specs.declared.ValueReply.{ValueReply}
+use Rattle.generator.specs.Replies.{valueReply}
 
 -- The odd powers of 5, counted from 0: 5, 125, 3125, ..
 unfoldable pub oddPower : ℕ → ℕ

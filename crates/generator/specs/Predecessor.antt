@@ -7,7 +7,8 @@ use Rattle.generator.specs.declared.Generator.{Generator}
 use Rattle.sequences.specs.Least.{least}
 use Rattle.generator.specs.Recurrence.{modulus, step}
 use Rattle.generator.specs.Refusals.{orElse, refusalOf}
-use Rattle.generator.specs.Replies.{ValueReply, valueReply}
+use Rattle.generator.specs.declared.ValueReply.{ValueReply}
+use Rattle.generator.specs.Replies.{valueReply}
 
 -- After 3 and 4, 6: the number is not below the modulus; 7: the multiplier is even.
 unfoldable pub predecessorRefusal : Generator → ℕ → ℕ

@@ -3,12 +3,9 @@ use Prim.Native.Nat.{ℕ, zero, suc}
 use Rattle.generator.specs.declared.ValueAnswer.{ValueAnswer}
 use Rattle.generator.specs.declared.ValueAnswer.the-variants.{Value, Refused}
 use Rattle.generator.specs.Refusals.{numberOf}
+use Rattle.generator.specs.declared.ValueReply.{ValueReply}
 
--- The refusal's number, 0 for none, and the value, 0 beside a refusal.
-pub record ValueReply : Type 0 where
-  pub refusal : ℕ
-  pub value : ℕ
-
+-- The reply for a refusal's number, 0 for none, and a value: 0 stands beside a refusal.
 abbrev pub valueReply : ℕ → ℕ → ValueReply
 valueReply zero v = record { refusal = 0; value = v }
 valueReply (suc n) v = record { refusal = suc n; value = 0 }

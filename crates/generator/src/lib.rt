@@ -10,8 +10,10 @@ use kinds::exceeds_modulus;
 pub mod customary;
 pub mod kinds;
 pub mod linear;
+pub mod plain;
 pub mod refusal_number;
 
+#[repr(C)]
 pub struct Generator {
     pub width: u64,
     pub multiplier: u64,
@@ -39,6 +41,13 @@ pub enum Check {
 pub enum ValueAnswer {
     Value(u64),
     Refused(Refusal),
+}
+
+// The same in plain numbers: the refusal's number, 0 for none, and the value, 0 beside a refusal.
+#[repr(C)]
+pub struct ValueReply {
+    pub refusal: u64,
+    pub value: u64,
 }
 
 // The conditions that every call on a generator checks first.

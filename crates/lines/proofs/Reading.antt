@@ -19,17 +19,8 @@ use Rattle.lines.specs.declared.RunAnswer.the-variants.{Accepted, Refuse
 use Rattle.lines.specs.Run.{runRefusal}
 use Rattle.lines.specs.Line.{numbersOf, lineOf, runAt}
 use Rattle.lines.proofs.Runs.{valid-run, valid-words}
-use Rattle.lines.specs.ReadLine.{
-  RunReply,
-  IsLine,
-  ReadPromise,
-  acceptedRun,
-  refusedRun,
-  replyOf,
-  runReply,
-  runIn,
-  readOf,
-}
+use Rattle.lines.specs.declared.RunReply.{RunReply}
+use Rattle.lines.specs.ReadLine.{IsLine, ReadPromise, acceptedRun, refusedRun, replyOf, runReply, runIn, readOf}
 
 -- two runs with the same line are the same run
 pub line-run : {run other : Run} → lineOf run ≡ lineOf other → run ≡ other

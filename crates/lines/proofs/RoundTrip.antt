@@ -13,13 +13,15 @@ use Rattle.generator.specs.declared.Refusal.{Refusal}
 use Rattle.generator.specs.declared.ValueAnswer.{ValueAnswer}
 use Rattle.generator.specs.declared.ValueAnswer.the-variants.{Value, Refused}
 use Rattle.generator.specs.Refusals.{numberOf, orElse}
-use Rattle.generator.specs.Replies.{ValueReply, valueReply, valueOf}
+use Rattle.generator.specs.declared.ValueReply.{ValueReply}
+use Rattle.generator.specs.Replies.{valueReply, valueOf}
 use Rattle.generator.proofs.Refusals.{or-else-none}
 use Rattle.generator.proofs.Replies.{number-suc}
 use Rattle.lines.specs.declared.Run.{Run}
 use Rattle.lines.specs.Run.{runRefusal}
 use Rattle.lines.specs.Line.{lineOf}
-use Rattle.lines.specs.ReadLine.{RunReply, ReadPromise, acceptedRun, refusedRun, runReply}
+use Rattle.lines.specs.declared.RunReply.{RunReply}
+use Rattle.lines.specs.ReadLine.{ReadPromise, acceptedRun, refusedRun, runReply}
 use Rattle.lines.specs.WriteLine.{writeRefusal, bufferAfter, WritePromise}
 use Rattle.lines.proofs.Runs.{valid-run, valid-words, line-short}
 

@@ -10,12 +10,9 @@ use Rattle.lines.specs.declared.RunAnswer.{RunAnswer}
 use Rattle.lines.specs.declared.RunAnswer.the-variants.{Accepted, Refused}
 use Rattle.lines.specs.Run.{runRefusal}
 use Rattle.lines.specs.Line.{lineOf, runAt, Words, noRun}
+use Rattle.lines.specs.declared.RunReply.{RunReply}
 
--- The refusal's number, 0 for none, and the run; beside a refusal its six numbers are 0.
-pub record RunReply : Type 0 where
-  pub refusal : ℕ
-  pub run : Run
-
+-- The reply with a run, and with a refusal's number: beside that the run's six numbers are 0.
 abbrev pub acceptedRun : Run → RunReply
 acceptedRun run = record { refusal = 0; run = run }
 

@@ -3,7 +3,8 @@ use mathlib.Core.Path.{_≡_}
 use Prim.Native.Nat.{ℕ, min}
 use Rattle.sequences.specs.Orbit.{periodOf, IsOrbit}
 use Rattle.generator.specs.Recurrence.{modulus, element}
-use Rattle.generator.specs.Replies.{ValueReply, valueReply}
+use Rattle.generator.specs.declared.ValueReply.{ValueReply}
+use Rattle.generator.specs.Replies.{valueReply}
 use Rattle.lines.specs.declared.Run.{Run}
 use Rattle.lines.specs.Run.{runRefusal}
 

@@ -6,7 +6,8 @@ use Prim.Native.Nat.{ℕ, zero, suc}
 use lib.Dec.{ltb}
 use lib.ListN.{length, drop}
 use Rattle.generator.specs.Refusals.{orElse}
-use Rattle.generator.specs.Replies.{ValueReply, valueReply}
+use Rattle.generator.specs.declared.ValueReply.{ValueReply}
+use Rattle.generator.specs.Replies.{valueReply}
 use Rattle.lines.specs.declared.Run.{Run}
 use Rattle.lines.specs.Run.{runRefusal}
 use Rattle.lines.specs.Line.{lineOf}

@@ -16,8 +16,10 @@ use numbers::run_of;
 use orbits::kinds::cycle_of;
 
 pub mod numbers;
+pub mod plain;
 
 // Position p of a run, below its count, shows element first + p.
+#[repr(C)]
 pub struct Run {
     pub generator: Generator,
     pub first: u64,
@@ -27,6 +29,13 @@ pub struct Run {
 pub enum RunAnswer {
     Accepted(Run),
     Refused(Refusal),
+}
+
+// The same in plain numbers: the refusal's number, 0 for none, and the run, all zeros beside a refusal.
+#[repr(C)]
+pub struct RunReply {
+    pub refusal: u64,
+    pub run: Run,
 }
 
 // The conditions on a run.

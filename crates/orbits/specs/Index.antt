@@ -11,14 +11,10 @@ use Rattle.orbits.specs.declared.IndexAnswer.{IndexAnswer}
 use Rattle.orbits.specs.declared.IndexAnswer.the-variants as answer
 use Rattle.orbits.specs.declared.kinds.Position.{Position}
 use Rattle.orbits.specs.declared.kinds.Position.the-variants as position
+use Rattle.orbits.specs.declared.IndexReply.{IndexReply}
 
--- The refusal's number, 0 for none; 1 if an index was found, 0 for never; the index, 0 beside a refusal or never.
-pub record IndexReply : Type 0 where
-  pub refusal : ℕ
-  pub found : ℕ
-  pub index : ℕ
-
--- The reply for an index below the bound, and for the bound itself, which stands for never.
+-- The reply for a refusal's number, 0 for none, and an index below the bound, or the bound itself, which stands for never:
+-- found is 1 for an index, 0 for never; zeros stand beside never and beside a refusal.
 abbrev pub indexReply : ℕ → ℕ → ℕ → IndexReply
 indexReply zero bound k =
     cond (ltb k bound) (record { refusal = 0; found = 1; index = k }) (record { refusal = 0; found = 0; index = 0 })

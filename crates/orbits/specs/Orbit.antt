@@ -10,17 +10,13 @@ use Rattle.generator.specs.Refusals.{numberOf, refusalOf}
 use Rattle.orbits.specs.declared.OrbitAnswer.{OrbitAnswer}
 use Rattle.orbits.specs.declared.OrbitAnswer.the-variants.{Orbit, Refused}
 use Rattle.orbits.specs.declared.kinds.Cycle.{Cycle}
+use Rattle.orbits.specs.declared.OrbitReply.{OrbitReply}
 
 -- The exponent of a power of two, 0 to 64.
 unfoldable pub exponentOf : ℕ → ℕ
 exponentOf p = least (λ e. eqb (2 ^ e) p) 65
 
--- The refusal's number, 0 for none; the preperiod and the period's exponent, 0 beside a refusal.
-pub record OrbitReply : Type 0 where
-  pub refusal : ℕ
-  pub preperiod : ℕ
-  pub exponent : ℕ
-
+-- The reply for a refusal's number, 0 for none, a preperiod and a period's exponent: zeros stand beside a refusal.
 abbrev pub orbitReply : ℕ → ℕ → ℕ → OrbitReply
 orbitReply zero t e = record { refusal = 0; preperiod = t; exponent = e }
 orbitReply (suc n) t e = record { refusal = suc n; preperiod = 0; exponent = 0 }

@@ -9,6 +9,7 @@ use kinds::Position;
 
 pub mod kinds;
 pub mod linear;
+pub mod plain;
 pub mod search;
 
 pub enum OrbitAnswer {
@@ -20,6 +21,22 @@ pub enum IndexAnswer {
     At(u64),
     Never,
     Refused(Refusal),
+}
+
+// The same in plain numbers: the refusal's number, 0 for none, and zeros beside a refusal.
+#[repr(C)]
+pub struct OrbitReply {
+    pub refusal: u64,
+    pub preperiod: u64,
+    pub exponent: u64,
+}
+
+// found is 0 for never.
+#[repr(C)]
+pub struct IndexReply {
+    pub refusal: u64,
+    pub found: u64,
+    pub index: u64,
 }
 
 // The preperiod and the period of a generator.

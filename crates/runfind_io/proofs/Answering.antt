@@ -1,20 +1,17 @@
--- The outcome of a lookup's answer is the one of the reply that the lookup promises.
-use mathlib.Core.Path.{_≡_, sym, ap, _∙_}
-use mathlib.Core.List.{List}
+-- The outcome of a lookup, by the plain numbers of its reply.
+use mathlib.Core.Path.{_≡_}
 use Prim.Native.Nat.{ℕ}
-use borrow.Author.Tests.{ne-eqb}
-use Rattle.generator.specs.declared.Refusal.{Refusal}
-use Rattle.generator.specs.Refusals.{numberOf}
-use Rattle.generator.proofs.Replies.{number-nonzero}
-use Rattle.archive.specs.declared.LookupAnswer.{LookupAnswer}
-use Rattle.archive.specs.Lookup.{LookupReply, LookupPromise, lookupOf, lookupRefused, replyOf}
-use Rattle.runfind_io.specs.declared.output.Outcome.{Outcome}
-use Rattle.runfind_io.specs.declared.output.Outcome.the-variants.{Refused}
+use borrow.Author.Tests.{eq-eqb, ne-eqb}
+use Rattle.archive.specs.declared.LookupReply.{LookupReply}
+use Rattle.runfind_io.specs.declared.output.Outcome.the-variants.{Place, NotFound, Refused}
 use Rattle.runfind_io.specs.Decision.{outcomeOf}
 
-pub answered : {bytes : List ℕ} {y : ℕ} {a : LookupAnswer} (b : LookupAnswer) → a ≡ b → LookupPromise bytes y (replyOf a) →
-    outcomeOf (replyOf b) ≡ outcomeOf (lookupOf bytes y)
-answered b e p = ap (λ (r : LookupReply). outcomeOf r) (ap replyOf (sym e) ∙ p .equals)
+module _ (r : LookupReply) where
+  pub outcome-refused : (r .refusal ≡ 0 → ⊥) → Refused (r .refusal) (r .line) ≡ outcomeOf r
+  outcome-refused d = rw (ne-eqb (r .refusal) 0 d)
 
-pub refused-as : (x : Refusal) (line : ℕ) {n : ℕ} → n ≡ numberOf x → Refused n line ≡ outcomeOf (lookupRefused (numberOf x) line)
-refused-as x line e = rw (ne-eqb (numberOf x) 0 (number-nonzero x), e)
+  pub outcome-none : r .refusal ≡ 0 → r .found ≡ 0 → NotFound ≡ outcomeOf r
+  outcome-none e f = rw (eq-eqb (r .refusal) 0 e, eq-eqb (r .found) 0 f)
+
+  pub outcome-place : r .refusal ≡ 0 → (r .found ≡ 0 → ⊥) → Place (r .line) (r .position) ≡ outcomeOf r
+  outcome-place e d = rw (eq-eqb (r .refusal) 0 e, ne-eqb (r .found) 0 d)

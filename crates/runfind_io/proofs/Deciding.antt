@@ -5,7 +5,8 @@ use mathlib.Core.List.{List, _++_}
 use Prim.Native.Nat.{ℕ, _≤_, _<_}
 use native.Mathlib.Omega.{arith}
 use lib.ListN.{length, length-append}
-use Rattle.archive.specs.Lookup.{LookupReply, lookupOf}
+use Rattle.archive.specs.declared.LookupReply.{LookupReply}
+use Rattle.archive.specs.Lookup.{lookupOf}
 use Rattle.archive.proofs.Demands.{lookup-long}
 use Rattle.runfind_io.specs.declared.input.Rest.{Rest}
 use Rattle.runfind_io.specs.declared.input.Rest.the-variants.{Nothing, Unknown, Failed}

@@ -4,7 +4,8 @@ use mathlib.Core.Bool.{cond}
 use mathlib.Core.List.{List, _++_}
 use Prim.Native.Nat.{ℕ}
 use lib.Dec.{eqb}
-use Rattle.archive.specs.Lookup.{LookupReply, lookupOf}
+use Rattle.archive.specs.declared.LookupReply.{LookupReply}
+use Rattle.archive.specs.Lookup.{lookupOf}
 use Rattle.runfind_io.specs.declared.input.Rest.{Rest}
 use Rattle.runfind_io.specs.declared.input.Rest.the-variants.{Nothing, Unknown, Failed}
 use Rattle.runfind_io.specs.declared.output.Outcome.{Outcome}

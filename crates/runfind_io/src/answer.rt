@@ -3,16 +3,19 @@ ghost use mathlib.Core.Path.{_≡_};
 ghost use Rattle.archive.specs.Lookup.{lookupOf};
 ghost use Rattle.runfind_io.specs.Decision.{outcomeOf};
 use crate::output::Outcome;
-use archive::LookupAnswer;
-use generator::refusal_number::number;
+use archive::plain::of_lookup;
 
 pub fn answer(bytes: &[u8], value: u64) -> Outcome
     ensures { λ r. ⌜ r ≡ outcomeOf (lookupOf (now (bytes .entry)) value) ⌝ }
 {
-    let found = archive::lookup(bytes, value);
-    match found {
-        LookupAnswer::At(line, position) => Outcome::Place(line, position),
-        LookupAnswer::Nowhere => Outcome::NotFound,
-        LookupAnswer::Refused(refusal, line) => Outcome::Refused(number(refusal), line),
+    let reply = of_lookup(archive::lookup(bytes, value));
+    let refusal = reply.refusal;
+    let found = reply.found;
+    if refusal != 0 {
+        return Outcome::Refused(refusal, reply.line);
     }
+    if found == 0 {
+        return Outcome::NotFound;
+    }
+    Outcome::Place(reply.line, reply.position)
 }

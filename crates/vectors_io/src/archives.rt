@@ -2,8 +2,7 @@
 use crate::numbers::Bytes;
 use crate::numbers::read_bytes;
 use crate::replies::Reply;
-use archive::LookupAnswer;
-use generator::refusal_number;
+use archive::plain::of_lookup;
 
 // The reply to a call on an archive: a number, and the archive's bytes.
 pub fn reply(letter: u8, n: &[u64]) -> Reply {
@@ -25,17 +24,8 @@ fn on_archive(letter: u8, archive: &[u8], number: u64) -> Reply {
 }
 
 fn lookup(archive: &[u8], number: u64) -> Reply {
-    let answer = archive::lookup(archive, number);
-    match answer {
-        LookupAnswer::At(line, position) => Reply::Four(0, line, 1, position),
-        LookupAnswer::Nowhere => Reply::Four(0, 0, 0, 0),
-        LookupAnswer::Refused(refusal, line) => Reply::Four(
-            refusal_number::number(refusal),
-            line,
-            0,
-            0,
-        ),
-    }
+    let r = of_lookup(archive::lookup(archive, number));
+    Reply::Four(r.refusal, r.line, r.found, r.position)
 }
 
 fn line(archive: &[u8], number: u64) -> Reply {

@@ -7,11 +7,11 @@ use crate::numbers::read_bytes;
 use crate::replies::Reply;
 use generator::Generator;
 use generator::ValueAnswer;
-use generator::refusal_number::number;
+use generator::plain::of_value;
 use lines::Run;
-use lines::RunAnswer;
-use orbits::IndexAnswer;
-use orbits::OrbitAnswer;
+use lines::plain::of_run;
+use orbits::plain::of_index;
+use orbits::plain::of_orbit;
 
 // The reply to a call. A call with too few or too many numbers is none.
 pub fn reply(letter: u8, n: &[u64]) -> Reply {
@@ -34,47 +34,37 @@ fn customary_multiplier(n: &[u64]) -> Reply {
     if n.len() != 1 {
         return Reply::Unreadable;
     }
-    of_value(generator::customary_multiplier(n[0]))
+    of_one(generator::customary_multiplier(n[0]))
 }
 
 fn element(n: &[u64]) -> Reply {
     if n.len() != 5 {
         return Reply::Unreadable;
     }
-    of_value(generator::element(generator_of(n), n[4]))
+    of_one(generator::element(generator_of(n), n[4]))
 }
 
 fn index(n: &[u64]) -> Reply {
     if n.len() != 5 {
         return Reply::Unreadable;
     }
-    let answer = orbits::index(generator_of(n), n[4]);
-    match answer {
-        IndexAnswer::At(i) => Reply::Three(0, 1, i),
-        IndexAnswer::Never => Reply::Three(0, 0, 0),
-        IndexAnswer::Refused(refusal) => Reply::Three(number(refusal), 0, 0),
-    }
+    let r = of_index(orbits::index(generator_of(n), n[4]));
+    Reply::Three(r.refusal, r.found, r.index)
 }
 
 fn orbit(n: &[u64]) -> Reply {
     if n.len() != 4 {
         return Reply::Unreadable;
     }
-    let answer = orbits::orbit(generator_of(n));
-    match answer {
-        OrbitAnswer::Orbit {
-            preperiod,
-            exponent,
-        } => Reply::Three(0, preperiod, exponent),
-        OrbitAnswer::Refused(refusal) => Reply::Three(number(refusal), 0, 0),
-    }
+    let r = of_orbit(orbits::orbit(generator_of(n)));
+    Reply::Three(r.refusal, r.preperiod, r.exponent)
 }
 
 fn predecessor(n: &[u64]) -> Reply {
     if n.len() != 5 {
         return Reply::Unreadable;
     }
-    of_value(generator::predecessor(generator_of(n), n[4]))
+    of_one(generator::predecessor(generator_of(n), n[4]))
 }
 
 fn read_line(n: &[u64]) -> Reply {
@@ -82,14 +72,25 @@ fn read_line(n: &[u64]) -> Reply {
     let Bytes::Count(count) = read_bytes(n, &mut buffer) else {
         return Reply::Unreadable;
     };
-    of_run(lines::read_line(&buffer[0..count]))
+    let r = of_run(lines::read_line(&buffer[0..count]));
+    let run = r.run;
+    let g = run.generator;
+    Reply::Seven(
+        r.refusal,
+        g.width,
+        g.multiplier,
+        g.increment,
+        g.seed,
+        run.first,
+        run.count,
+    )
 }
 
 fn variety(n: &[u64]) -> Reply {
     if n.len() != 6 {
         return Reply::Unreadable;
     }
-    of_value(lines::variety(run_of(n)))
+    of_one(lines::variety(run_of(n)))
 }
 
 // The last number is the buffer's length.
@@ -102,7 +103,7 @@ fn write_line(n: &[u64]) -> Reply {
     if 256 < length {
         return Reply::Unreadable;
     }
-    of_value(lines::write_line(run_of(n), &mut buffer[0..length]))
+    of_one(lines::write_line(run_of(n), &mut buffer[0..length]))
 }
 
 // The generator of the first four numbers.
@@ -128,27 +129,7 @@ fn run_of(n: &[u64]) -> Run
     }
 }
 
-fn of_value(answer: ValueAnswer) -> Reply {
-    match answer {
-        ValueAnswer::Value(v) => Reply::Two(0, v),
-        ValueAnswer::Refused(refusal) => Reply::Two(number(refusal), 0),
-    }
-}
-
-fn of_run(answer: RunAnswer) -> Reply {
-    match answer {
-        RunAnswer::Accepted(run) => {
-            let g = run.generator;
-            Reply::Seven(
-                0,
-                g.width,
-                g.multiplier,
-                g.increment,
-                g.seed,
-                run.first,
-                run.count,
-            )
-        }
-        RunAnswer::Refused(refusal) => Reply::Seven(number(refusal), 0, 0, 0, 0, 0, 0),
-    }
+fn of_one(answer: ValueAnswer) -> Reply {
+    let r = of_value(answer);
+    Reply::Two(r.refusal, r.value)
 }

@@ -1,5 +1,5 @@
 // Answers stored calls. Each line of standard input is a call: its letter, and behind each comma a
-// number. Standard output has the reply to each, its numbers parted by commas, or `?` where the
+// number. Standard output has the reply to each, its numbers separated by commas, or `?` where the
 // line is no call.
 use archive::parts::part_end;
 use replies::Reply;
@@ -10,13 +10,18 @@ mod numbers;
 mod replies;
 
 pub fn run() {
-    let mut input = [0u8; 450000];
+    let mut input = [0u8; 1600000];
     answer_input(&mut input);
 }
 
-// Reads the input and answers it. As `&mut [u8; 450000]` the space has its length without a proof.
-fn answer_input(space: &mut [u8; 450000]) {
+// Reads the input and answers it; one that fills the space may not have been read to its end. As `&mut [u8; 1600000]` the
+// space has its length without a proof.
+fn answer_input(space: &mut [u8; 1600000]) {
     let n = io::read_full(0, space);
+    if n == 1600000 {
+        io::write_all(1, b"the input is too long\n");
+        return;
+    }
     let input: &[u8] = space;
     answer_all(&input[..n]);
 }

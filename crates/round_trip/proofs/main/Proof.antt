@@ -7,7 +7,8 @@ use Rattle.generator.specs.Refusals.{refusalOf}
 use Rattle.generator.proofs.Replies.{number-nonzero}
 use Rattle.lines.specs.declared.Run.{Run}
 use Rattle.lines.specs.Run.{runRefusal}
-use Rattle.lines.specs.ReadLine.{RunReply, acceptedRun, replyOf}
+use Rattle.lines.specs.declared.RunReply.{RunReply}
+use Rattle.lines.specs.ReadLine.{acceptedRun, replyOf}
 use Rattle.round_trip.proofs.main.Statement.{statement}
 use Rattle.round_trip.proofs.main.Tie as tie
 

@@ -1,0 +1,31 @@
+// Answers in plain numbers.
+ghost use mathlib.Core.Path.{_≡_};
+ghost use Rattle.archive.specs.Lookup.{replyOf};
+use crate::LookupAnswer;
+use crate::LookupReply;
+use generator::refusal_number::number;
+
+pub fn of_lookup(answer: LookupAnswer) -> LookupReply
+    ensures { λ r. ⌜ r ≡ replyOf answer ⌝ }
+{
+    match answer {
+        LookupAnswer::At(line, position) => LookupReply {
+            refusal: 0,
+            line,
+            found: 1,
+            position,
+        },
+        LookupAnswer::Nowhere => LookupReply {
+            refusal: 0,
+            line: 0,
+            found: 0,
+            position: 0,
+        },
+        LookupAnswer::Refused(refusal, at) => LookupReply {
+            refusal: number(refusal),
+            line: at,
+            found: 0,
+            position: 0,
+        },
+    }
+}

@@ -1,0 +1,32 @@
+// Answers in plain numbers.
+ghost use mathlib.Core.Path.{_≡_};
+ghost use Rattle.lines.specs.ReadLine.{replyOf};
+use crate::Run;
+use crate::RunAnswer;
+use crate::RunReply;
+use generator::Generator;
+use generator::refusal_number::number;
+
+// The run of zeros.
+const NO_RUN: Run = Run {
+    generator: Generator {
+        width: 0,
+        multiplier: 0,
+        increment: 0,
+        seed: 0,
+    },
+    first: 0,
+    count: 0,
+};
+
+pub fn of_run(answer: RunAnswer) -> RunReply
+    ensures { λ r. ⌜ r ≡ replyOf answer ⌝ }
+{
+    match answer {
+        RunAnswer::Accepted(run) => RunReply { refusal: 0, run },
+        RunAnswer::Refused(refusal) => RunReply {
+            refusal: number(refusal),
+            run: NO_RUN,
+        },
+    }
+}

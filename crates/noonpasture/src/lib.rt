@@ -1,0 +1,108 @@
+// The calls over the C boundary, as include/noonpasture.h declares them: each is its call, answered in plain numbers. A slice
+// passes as a pointer and a length.
+ghost use mathlib.Core.Path.{_≡_};
+ghost use Rattle.generator.specs.Recurrence.{element};
+ghost use Rattle.generator.specs.Refusals.{refusalOf};
+ghost use Rattle.generator.specs.Replies.{valueReply};
+ghost use Rattle.generator.specs.Predecessor.{PredecessorPromise};
+ghost use Rattle.generator.specs.Customary.{CustomaryPromise};
+ghost use Rattle.orbits.specs.Orbit.{OrbitPromise};
+ghost use Rattle.orbits.specs.Index.{IndexPromise};
+ghost use Rattle.lines.specs.ReadLine.{ReadPromise};
+ghost use Rattle.lines.specs.WriteLine.{WritePromise};
+ghost use Rattle.lines.specs.Variety.{VarietyPromise};
+ghost use Rattle.archive.specs.Line.{PartPromise};
+ghost use Rattle.archive.specs.Lookup.{LookupPromise};
+use archive::LookupReply;
+use archive::Part;
+use archive::plain::of_lookup;
+use generator::Generator;
+use generator::ValueReply;
+use generator::plain::of_value;
+use lines::Run;
+use lines::RunReply;
+use lines::plain::of_run;
+use orbits::IndexReply;
+use orbits::OrbitReply;
+use orbits::plain::of_index;
+use orbits::plain::of_orbit;
+
+// The element at this index.
+#[no_mangle]
+pub extern "C" fn np_element(g: Generator, index: u64) -> ValueReply
+    ensures { λ r. ⌜ r ≡ valueReply (refusalOf g) (element g index) ⌝ }
+{
+    of_value(generator::element(g, index))
+}
+
+// The preperiod and the period's exponent.
+#[no_mangle]
+pub extern "C" fn np_orbit(g: Generator) -> OrbitReply
+    ensures { λ r. ⌜ OrbitPromise g r ⌝ }
+{
+    of_orbit(orbits::orbit(g))
+}
+
+// The least index that yields the value, or never.
+#[no_mangle]
+pub extern "C" fn np_index(g: Generator, value: u64) -> IndexReply
+    ensures { λ r. ⌜ IndexPromise g value r ⌝ }
+{
+    of_index(orbits::index(g, value))
+}
+
+// The only number that one step takes to this one.
+#[no_mangle]
+pub extern "C" fn np_predecessor(g: Generator, value: u64) -> ValueReply
+    ensures { λ r. ⌜ PredecessorPromise g value r ⌝ }
+{
+    of_value(generator::predecessor(g, value))
+}
+
+// The largest odd power of 5 below 2^width.
+#[no_mangle]
+pub extern "C" fn np_customary_multiplier(width: u64) -> ValueReply
+    ensures { λ r. ⌜ CustomaryPromise width r ⌝ }
+{
+    of_value(generator::customary_multiplier(width))
+}
+
+// The smaller of the count and the period.
+#[no_mangle]
+pub extern "C" fn np_variety(run: Run) -> ValueReply
+    ensures { λ r. ⌜ VarietyPromise run r ⌝ }
+{
+    of_value(lines::variety(run))
+}
+
+// Writes the run's line, and gives its length.
+#[no_mangle]
+pub extern "C" fn np_write_line(run: Run, buffer: &mut [u8]) -> ValueReply
+    ensures { λ r. ⌜ WritePromise run (now (buffer .entry)) (now (buffer .exit)) r ⌝ }
+{
+    of_value(lines::write_line(run, buffer))
+}
+
+// The run whose line the bytes are.
+#[no_mangle]
+pub extern "C" fn np_read_line(bytes: &[u8]) -> RunReply
+    ensures { λ r. ⌜ ReadPromise (now (bytes .entry)) r ⌝ }
+{
+    of_run(lines::read_line(bytes))
+}
+
+// Where the line with this number stands in the archive.
+#[no_mangle]
+pub extern "C" fn np_line(archive: &[u8], line: u64) -> Part
+    ensures { λ r. ⌜ PartPromise (now (archive .entry)) line r ⌝ }
+{
+    archive::line_part(archive, line)
+}
+
+// The earliest place in the archive that shows the value.
+#[no_mangle]
+pub extern "C" fn np_lookup(archive: &[u8], value: u64) -> LookupReply
+    ensures { λ r. ⌜ LookupPromise (now (archive .entry)) value r ⌝ }
+{
+    of_lookup(archive::lookup(archive, value))
+}

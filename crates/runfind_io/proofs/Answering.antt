@@ -8,7 +8,6 @@ use Rattle.generator.specs.Refusals.{numberOf}
 use Rattle.generator.proofs.Replies.{number-nonzero}
 use Rattle.archive.specs.declared.LookupAnswer.{LookupAnswer}
 use Rattle.archive.specs.Lookup.{LookupReply, LookupPromise, lookupOf, lookupRefused, replyOf}
-use Rattle.runfind_io.specs.declared.output.Outcome.{Outcome}
 use Rattle.runfind_io.specs.declared.output.Outcome.the-variants.{Refused}
 use Rattle.runfind_io.specs.Decision.{outcomeOf}
 

@@ -13,8 +13,8 @@ use Rattle.lines.specs.Line.{noRun}
 use Rattle.archive.specs.declared.LookupAnswer.{LookupAnswer}
 use Rattle.archive.specs.declared.LookupAnswer.the-variants.{At, Nowhere, Refused}
 use Rattle.archive.specs.Archive.{runsIn, numbered}
-use Rattle.archive.specs.Check.{CheckReply, checkOf, Accepts}
 use Rattle.archive.specs.declared.LookupReply.{LookupReply}
+use Rattle.archive.specs.Check.{checkOf, Accepts}
 
 -- The least position of the run that shows y; its count if there is none.
 unfoldable pub positionOf : Run → ℕ → ℕ

@@ -2,7 +2,6 @@
 use mathlib.Core.Path.{_≡_, refl}
 use mathlib.Core.Bool.{true, false}
 use mathlib.Core.List.{[], _∷_, map}
-use Prim.Native.Nat.{ℕ}
 use Rattle.fields.specs.Ascii.{ascii}
 use Rattle.fields.specs.Digits.{digitsOf, lastDigits}
 use Rattle.fields.specs.Line.{fieldsLine, numbersFrom, isLine}

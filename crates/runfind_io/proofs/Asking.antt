@@ -1,15 +1,14 @@
 -- What reading the question shows: it is the line of one number, so the laws of lines tell whether the bytes are one.
 use mathlib.Core.Path.{_≡_, refl, sym, ap, _∙_, subst}
 use mathlib.Core.Bool.{Bool, true, false}
-use mathlib.Core.List.{List, [], _∷_, _++_}
-use Prim.Native.Nat.{ℕ, _^_, _≤_, _<_}
+use mathlib.Core.List.{List, [], _∷_}
+use Prim.Native.Nat.{ℕ, _^_, _<_}
 use native.Mathlib.Omega.{arith}
 use lib.ListN.{length, getD, length-append}
 use Rattle.fields.specs.Line.{AllBelow, fieldsLine, numbersFrom, isLine}
 use Rattle.fields.specs.Codec.{LineRead}
 use Rattle.fields.proofs.Digits.{digits-length}
 use Rattle.fields.proofs.Numbers.{numbers-line, is-line, line-is, no-line}
-use Rattle.runfind_io.specs.declared.question.Question.{Question}
 use Rattle.runfind_io.specs.declared.question.Question.the-variants.{Number, Malformed}
 use Rattle.runfind_io.specs.Question.{questionOf, QuestionPromise}
 

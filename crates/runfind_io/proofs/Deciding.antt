@@ -2,7 +2,7 @@
 -- 22 begin none; an archive has at most 65,536, so 65,537 begin one that is too long.
 use mathlib.Core.Path.{_≡_, sym, ap, _∙_}
 use mathlib.Core.List.{List, _++_}
-use Prim.Native.Nat.{ℕ, _≤_, _<_}
+use Prim.Native.Nat.{ℕ, _≤_}
 use native.Mathlib.Omega.{arith}
 use lib.ListN.{length, length-append}
 use Rattle.archive.specs.declared.LookupReply.{LookupReply}
@@ -14,9 +14,9 @@ use Rattle.runfind_io.specs.declared.output.Outcome.{Outcome}
 use Rattle.runfind_io.specs.declared.output.Outcome.the-variants.{BadQuestion, Unread}
 use Rattle.runfind_io.specs.declared.question.Question.{Question}
 use Rattle.runfind_io.specs.declared.question.Question.the-variants.{Number, Malformed}
-use Rattle.runfind_io.specs.Decision.{Source, holds, unreadable, askedOf, outcomeOf, outcomeFor, ReadOf, Decided}
+use Rattle.runfind_io.specs.Decision.{Source, holds, askedOf, outcomeOf, outcomeFor, ReadOf, Decided}
 use Rattle.runfind_io.specs.Input.{Enough, Asked}
-use Rattle.runfind_io.specs.Question.{questionOf, QuestionPromise}
+use Rattle.runfind_io.specs.Question.{QuestionPromise}
 use Rattle.runfind_io.proofs.Asking.{long-question}
 
 -- The question.

@@ -1,6 +1,6 @@
 -- `archive::line_part` meets its contract.
 use borrow.Author.Needs.{needs}
-use mathlib.Core.Path.{_≡_, sym, ap}
+use mathlib.Core.Path.{sym, ap}
 use Rattle.archive.specs.Check.{CheckReply}
 use Rattle.archive.specs.declared.ArchiveCheck.the-variants.{Accepted, Refused}
 use Rattle.archive.proofs.Checking.{check-as}

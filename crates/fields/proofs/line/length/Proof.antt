@@ -1,6 +1,5 @@
 -- `line::length` meets its contract: the loop's invariant is `CountedSoFar`.
 use Prim.Native.Nat.{_-_}
-use native.Mathlib.Omega.{arith}
 use lib.ListN.{length}
 use Rattle.fields.proofs.Codec.{CountedSoFar, count-start, count-next, count-end}
 use borrow.Author.Needs.{needs}

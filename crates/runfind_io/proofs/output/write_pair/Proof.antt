@@ -1,5 +1,4 @@
 -- `output::write_pair` meets its contract: the line of two numbers is no longer than the buffer.
-use Prim.Native.Nat.{_≤_}
 use native.Mathlib.Omega.{arith}
 use Rattle.runfind_io.proofs.FrontWriting.{pair-short}
 use borrow.Author.Needs.{needs}

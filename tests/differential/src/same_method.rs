@@ -153,7 +153,7 @@ pub fn write_line(run: Run, buffer: &mut [u8]) -> Value {
     if refusal != 0 {
         return Value { refusal, value: 0 };
     }
-    let numbers = run.numbers();
+    let numbers: [u64; 6] = run.into();
     let length: usize = numbers.iter().map(|&number| digits(number) + 1).sum();
     if buffer.len() < length {
         return Value { refusal: BUFFER_TOO_SHORT, value: 0 };
@@ -190,7 +190,7 @@ fn read(bytes: &[u8], at: usize) -> Result<(Run, usize), u64> {
     for (number, end) in numbers.iter_mut().zip(*b",,,,,\n") {
         (*number, next) = field(bytes, next, end).ok_or(MALFORMED_LINE)?;
     }
-    let run = Run::of(numbers);
+    let run = Run::from(numbers);
     match run_refusal(run) {
         0 => Ok((run, next)),
         refusal => Err(refusal),
@@ -200,9 +200,9 @@ fn read(bytes: &[u8], at: usize) -> Result<(Run, usize), u64> {
 #[inline(never)]
 pub fn read_line(bytes: &[u8]) -> RunReply {
     match read(bytes, 0) {
-        Ok((run, end)) if end == bytes.len() => RunReply::accepted(run),
-        Ok(_) => RunReply::refused(MALFORMED_LINE),
-        Err(refusal) => RunReply::refused(refusal),
+        Ok((run, end)) if end == bytes.len() => accepted(run),
+        Ok(_) => refused(MALFORMED_LINE),
+        Err(refusal) => refused(refusal),
     }
 }
 

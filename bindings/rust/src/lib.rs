@@ -251,3 +251,8 @@ pub fn lookup(archive: &[u8], value: u64) -> Result<Option<Location>, Refused> {
         Err(refusal) => Err(Refused { refusal, line }),
     }
 }
+
+/// The examples of the repository's README.
+#[cfg(doctest)]
+#[doc = include_str!("../../../README.md")]
+struct Readme;

@@ -33,7 +33,7 @@ pub fn full_period_generator(r: &mut Random, width: u64) -> Generator {
 }
 
 /// An accepted generator. The difference of its first elements often ends in many zero bits,
-/// which shortens the cycle.
+/// which shortens the period.
 pub fn accepted_generator(r: &mut Random, width: u64) -> Generator {
     let multiplier = multiplier(r, width);
     let shifts = [0, r.below(width), r.below(width)];

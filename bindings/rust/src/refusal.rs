@@ -6,6 +6,7 @@ use std::fmt::{self, Display, Formatter};
 /// Why a call is refused: the lowest that applies. The numbers are those of
 /// `include/noonpasture.h`.
 #[derive(Clone, Copy, Debug, PartialEq, Eq, Hash)]
+#[non_exhaustive]
 pub enum Refusal {
     ArchiveTooLong = 1,
     MalformedLine,

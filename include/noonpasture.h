@@ -1,25 +1,18 @@
-/* The demo-run archive: the calls of the proved static library libexports.a.
+/* Noonpasture: the demo-run archive. The calls of the proved library, libnoonpasture.a or .so.
  *
  * A generator has a width n (1 to 64), a multiplier, an increment and a seed, each below 2^n.
  * Element 0 is the seed; element i + 1 is multiplier * (element i) + increment modulo 2^n.
- * A run is a generator with a first index and a count; position p shows element first + p.
- * A line is the six numbers of a run in this order, parted by commas and ended by byte 10;
- * an archive is a row of lines, numbered from 1.
+ * A run is a generator with a first index and a count; position p, below the count, shows
+ * element first + p. A line is the six numbers of a run in the order of np_run, in decimal,
+ * separated by commas and ended by byte 10. An archive is zero or more lines, numbered from 1.
  *
- * Every number may be passed; a pointer must be good for the length that comes with it.
- * The field `refusal` is 0 or one of these numbers, the lowest that applies to the call:
+ * Any numbers and any bytes may be passed: nothing has to be checked beforehand. A pointer must
+ * be good for the length that comes with it; a null pointer is good with length 0. No call
+ * allocates, keeps a pointer or has a state, so all of them may run at once in several threads.
  *
- *   1  the archive is longer than 65,536 bytes
- *   2  the bytes are no line, a field is above 2^64 - 1, or byte 10 is missing
- *   3  the width is 0 or above 64 (for the customary multiplier also 1 and 2)
- *   4  the multiplier, the increment or the seed is 2^n or more
- *   5  the count is 0, or first + count is above 2^64 - 1
- *   6  the number whose predecessor is asked for is 2^n or more
- *   7  the multiplier is even, so that a number has no single predecessor
- *   8  the buffer is shorter than the line
- *
- * In an archive 1 is looked at first, then line by line, and in a line 2, 3, 4, 5.
- * Beside a refusal every other field is 0 (but for the line it concerns), and no byte is written.
+ * The first field of a reply is the refusal: 0, or the lowest NP_REFUSED_.. that applies. Beside
+ * a refusal every other field is 0 (but for the line that it concerns, in a lookup) and no byte
+ * is written.
  */
 #ifndef NOONPASTURE_H
 #define NOONPASTURE_H
@@ -31,47 +24,88 @@
 extern "C" {
 #endif
 
+#define NP_VERSION "0.4.0"
+
+#define NP_LINE_MAX 107       /* no line of a run is longer, its byte 10 included */
+#define NP_ARCHIVE_MAX 65536  /* no accepted archive is longer */
+
+/* Why a call is refused. In an archive 1 comes first, then line by line 2, 3, 4, 5. */
+enum {
+    NP_REFUSED_ARCHIVE_TOO_LONG = 1,      /* more than NP_ARCHIVE_MAX bytes */
+    NP_REFUSED_MALFORMED_LINE = 2,        /* bytes that are not a valid line: a field that is no
+                                             number below 2^64 or has a leading zero, more or fewer
+                                             than six fields, any other byte, byte 10 missing */
+    NP_REFUSED_WIDTH_OUT_OF_RANGE = 3,    /* width 0 or above 64; for the customary multiplier also 1 and 2 */
+    NP_REFUSED_OPERAND_OUT_OF_RANGE = 4,  /* multiplier, increment or seed is 2^width or more */
+    NP_REFUSED_RUN_OUT_OF_RANGE = 5,      /* count 0, or first + count above 2^64 - 1 */
+    NP_REFUSED_VALUE_OUT_OF_RANGE = 6,    /* predecessor of a value of 2^width or more */
+    NP_REFUSED_NOT_INVERTIBLE = 7,        /* predecessor with an even multiplier */
+    NP_REFUSED_BUFFER_TOO_SHORT = 8       /* the buffer is shorter than the line */
+};
+
+typedef struct { uint64_t width, multiplier, increment, seed; } np_generator;
+typedef struct { np_generator generator; uint64_t first, count; } np_run;
+
 typedef struct { uint64_t refusal, value; } np_value;
 typedef struct { uint64_t refusal, preperiod, exponent; } np_orbit_reply;
 typedef struct { uint64_t refusal, found, index; } np_index_reply;            /* found 0: never */
-typedef struct { uint64_t refusal, width, multiplier, increment, seed, first, count; } np_run_reply;
+typedef struct { uint64_t refusal; np_run run; } np_run_reply;
 typedef struct { uint64_t refusal, line, found, position; } np_lookup_reply;  /* found 0, refusal 0: none */
-typedef struct { uint64_t start, length; } np_part;
+typedef struct { uint64_t start, length; } np_part;                           /* length 0: the empty part */
 
-/* The element at this index. Refusals 3, 4. */
-np_value        np_element(uint64_t width, uint64_t multiplier, uint64_t increment, uint64_t seed, uint64_t index);
+/* The element at an index, any from 0 to 2^64 - 1. Refusals 3, 4. */
+np_value        np_element(np_generator g, uint64_t index);
 
-/* The least index whose element occurs again later, and the exponent of the cycle's length,
- * which is a power of two (exponent 0 to 64). Refusals 3, 4. */
-np_orbit_reply  np_orbit(uint64_t width, uint64_t multiplier, uint64_t increment, uint64_t seed);
+/* The preperiod, the least index whose element occurs again at a later index, and the period,
+ * after how many indices it first does: a power of two, given as its exponent, 0 to 64.
+ * Refusals 3, 4. */
+np_orbit_reply  np_orbit(np_generator g);
 
-/* The least index that yields the number, or never. Refusals 3, 4. */
-np_index_reply  np_index(uint64_t width, uint64_t multiplier, uint64_t increment, uint64_t seed, uint64_t number);
+/* The least index that yields the value (found 1), or never (found 0). Refusals 3, 4. */
+np_index_reply  np_index(np_generator g, uint64_t value);
 
-/* The only number below 2^n that one step takes to the given one. Refusals 3, 4, 6, 7. */
-np_value        np_predecessor(uint64_t width, uint64_t multiplier, uint64_t increment, uint64_t seed, uint64_t number);
+/* The only number below 2^width that one step takes to the value. Refusals 3, 4, 6, 7. */
+np_value        np_predecessor(np_generator g, uint64_t value);
 
-/* The smaller of the count and the cycle's length. Refusals 3, 4, 5. */
-np_value        np_variety(uint64_t width, uint64_t multiplier, uint64_t increment, uint64_t seed, uint64_t first, uint64_t count);
-
-/* The largest odd power of 5 below 2^n, for n from 3 to 64. Refusal 3. */
+/* The largest odd power of 5 below 2^width, for widths from 3 to 64. Refusal 3. */
 np_value        np_customary_multiplier(uint64_t width);
 
-/* Writes the run's line from the buffer's first byte on, keeps the bytes behind it, and gives
- * the line's length. Refusals 3, 4, 5, 8. */
-np_value        np_write_line(uint64_t width, uint64_t multiplier, uint64_t increment, uint64_t seed, uint64_t first, uint64_t count,
-                              uint8_t *buffer, size_t length);
+/* The smaller of the run's count and its generator's period. Refusals 3, 4, 5. */
+np_value        np_variety(np_run run);
+
+/* Writes the run's line from the buffer's first byte on, keeps the bytes behind it, and gives the
+ * line's length; NP_LINE_MAX bytes always suffice. Refusals 3, 4, 5, 8. */
+np_value        np_write_line(np_run run, uint8_t *buffer, size_t length);
 
 /* The run of bytes that are one line, its byte 10 included. Refusals 2, 3, 4, 5. */
 np_run_reply    np_read_line(const uint8_t *bytes, size_t length);
 
-/* Where the line of this number stands in the archive, its byte 10 included; 0, 0 if the
- * archive is refused or has no such line. This call gives no refusal number. */
-np_part         np_line(const uint8_t *archive, size_t length, uint64_t number);   /* length 0: the empty part */
+/* Where the line with this number stands in the archive, its byte 10 included. The empty part,
+ * start 0 and length 0, if the archive is refused or has no such line: this call alone gives no
+ * refusal. */
+np_part         np_line(const uint8_t *archive, size_t length, uint64_t line);
 
-/* The earliest line that shows the number and the least position in it, or none. Refusals 1
- * (line 0), 2, 3, 4, 5 (with the line's number). */
-np_lookup_reply np_lookup(const uint8_t *archive, size_t length, uint64_t number);
+/* The earliest line that shows the value and the least position in it (found 1), or none (found 0).
+ * The whole archive is checked first. Refusals 1 with line 0; 2, 3, 4, 5 with the number of the
+ * refused line. */
+np_lookup_reply np_lookup(const uint8_t *archive, size_t length, uint64_t value);
+
+/* A refusal's reason in words; of 0 and of numbers that are no refusal it says so. */
+static inline const char *np_refusal_text(uint64_t refusal)
+{
+    switch (refusal) {
+    case 0: return "not refused";
+    case NP_REFUSED_ARCHIVE_TOO_LONG: return "the archive has more than 65,536 bytes";
+    case NP_REFUSED_MALFORMED_LINE: return "bytes that are not a valid line";
+    case NP_REFUSED_WIDTH_OUT_OF_RANGE: return "the width is out of range";
+    case NP_REFUSED_OPERAND_OUT_OF_RANGE: return "the multiplier, the increment or the seed is 2^width or more";
+    case NP_REFUSED_RUN_OUT_OF_RANGE: return "the count is 0, or first + count is above 2^64 - 1";
+    case NP_REFUSED_VALUE_OUT_OF_RANGE: return "the value is 2^width or more";
+    case NP_REFUSED_NOT_INVERTIBLE: return "the multiplier is even, so there is no single predecessor";
+    case NP_REFUSED_BUFFER_TOO_SHORT: return "the buffer is shorter than the line";
+    default: return "no refusal has this number";
+    }
+}
 
 #ifdef __cplusplus
 }

@@ -273,6 +273,19 @@ bad_fields() {
     done
 }
 
+# What README says of an archive that a spreadsheet has saved.
+spreadsheets() {
+    archive '4,5,3,1,0,16\r\n10,371,995,73,100,8\r\n'
+    answers 'lines that end with bytes 13 and 10' '5\n' refused,2,1
+    archive '\0357\0273\0277'"$example"
+    answers 'a byte-order mark' '5\n' refused,2,1
+    archive "width,multiplier,increment,seed,first,count\\n$example"
+    answers 'a row of headings' '5\n' refused,2,1
+    archive '4;5;3;1;0;16\n10;371;995;73;100;8\n'
+    answers 'semicolons in every line' '5\n' refused,2,1
+    refused 'a large number rounded' 2 '4,5,3,1,1E+19,16\n'
+}
+
 out_of_range() {
     refused 'width 0' 3 '0,0,0,0,0,16\n'
     refused 'width 65' 3 '65,5,3,1,0,16\n'
@@ -384,6 +397,7 @@ question_first
 unread
 overlong
 malformed
+spreadsheets
 out_of_range
 in_range
 order

@@ -2,7 +2,7 @@
 
     make_vectors.py [FOLDER]      (without it: crates/vectors)
 
-The file stdin has one call a line, as decimal numbers parted by commas behind the call's letter:
+The file stdin has one call a line, as decimal numbers separated by commas behind the call's letter:
 
     E  element               width, multiplier, increment, seed, index   refusal, value
     O  orbit                 width, multiplier, increment, seed          refusal, preperiod, exponent

@@ -121,7 +121,7 @@ pub fn index(g: Generator, number: u64) -> Option<u64> {
     }
 }
 
-/// The cycle is the least P with d S(P) = 0 modulo 2^n. S(2^e) has e zero bits at its end, or
+/// The period is the least P with d S(P) = 0 modulo 2^n. S(2^e) has e zero bits at its end, or
 /// (for a = 3 modulo 4 and e ≥ 1) those of a + 1 and e − 1 more.
 pub fn exponent(g: Generator) -> u64 {
     let settled = (first_difference(g).trailing_zeros() as u64).min(g.width);

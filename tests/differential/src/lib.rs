@@ -2,10 +2,12 @@
 
 pub mod calls;
 pub mod formula;
-pub mod library;
 pub mod model;
 pub mod peers;
 pub mod random;
 pub mod same_method;
 pub mod samples;
 pub mod trail;
+
+/// The proved library.
+pub use noonpasture::raw as library;

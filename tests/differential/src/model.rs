@@ -131,7 +131,7 @@ pub fn customary_multiplier(width: u64) -> Value {
 // Lines and archives.
 
 pub fn write_line(run: Run, buffer: &mut [u8]) -> Value {
-    let line = run.line();
+    let line = line_of(&run);
     let refusal = match run_refusal(run) {
         0 if buffer.len() < line.len() => BUFFER_TOO_SHORT,
         refusal => refusal,
@@ -155,8 +155,8 @@ fn field(text: &[u8]) -> Option<u64> {
 fn parsed(line: &[u8]) -> Result<Run, u64> {
     let text = line.strip_suffix(b"\n").ok_or(MALFORMED_LINE)?;
     let fields: Option<Vec<u64>> = text.split(|&byte| byte == b',').map(field).collect();
-    let numbers = fields.and_then(|fields| fields.try_into().ok()).ok_or(MALFORMED_LINE)?;
-    let run = Run::of(numbers);
+    let numbers: [u64; 6] = fields.and_then(|fields| fields.try_into().ok()).ok_or(MALFORMED_LINE)?;
+    let run = Run::from(numbers);
     match run_refusal(run) {
         0 => Ok(run),
         refusal => Err(refusal),
@@ -164,7 +164,7 @@ fn parsed(line: &[u8]) -> Result<Run, u64> {
 }
 
 pub fn read_line(bytes: &[u8]) -> RunReply {
-    parsed(bytes).map_or_else(RunReply::refused, RunReply::accepted)
+    parsed(bytes).map_or_else(refused, accepted)
 }
 
 fn lines(archive: &[u8]) -> impl Iterator<Item = &[u8]> {
@@ -233,7 +233,8 @@ mod tests {
             }
             "R" => {
                 let r = read_line(&bytes(0));
-                vec![r.refusal, r.width, r.multiplier, r.increment, r.seed, r.first, r.count]
+                let numbers: [u64; 6] = r.run.into();
+                [&[r.refusal], numbers.as_slice()].concat()
             }
             "L" => {
                 let r = line(&bytes(1), n[0]);

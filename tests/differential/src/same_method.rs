@@ -66,10 +66,10 @@ fn element_of(g: Generator, index: u64) -> u64 {
 }
 
 /// For an odd multiplier. Up to each place `index` is the least index that agrees with the number,
-/// `away` what its element is above the number, `gap` what the element one cycle of the places so
-/// far on is above that, and `factor` what such a cycle multiplies differences by.
+/// `away` what its element is above the number, `gap` what the element one period of the places so
+/// far on is above that, and `factor` what such a period multiplies differences by.
 fn index_up_the_places(g: Generator, number: u64) -> Option<u64> {
-    let (mut index, mut cycle, mut factor, mut places) = (0, 1u64, g.multiplier, 1u64);
+    let (mut index, mut period, mut factor, mut places) = (0, 1u64, g.multiplier, 1u64);
     let mut away = g.seed.wrapping_sub(number);
     let mut gap = Map::step(g).apply(g.seed).wrapping_sub(g.seed);
     for place in 0..g.width {
@@ -79,13 +79,13 @@ fn index_up_the_places(g: Generator, number: u64) -> Option<u64> {
             let square = factor.wrapping_mul(factor);
             let mut growth = factor.wrapping_add(1);
             if differs {
-                index += cycle;
+                index += period;
                 away = away.wrapping_add(gap);
                 growth = square.wrapping_add(factor);
             }
             gap = growth.wrapping_mul(gap);
             factor = square;
-            cycle = cycle.wrapping_add(cycle);
+            period = period.wrapping_add(period);
         } else if differs {
             return None;
         }
@@ -153,7 +153,7 @@ pub fn write_line(run: Run, buffer: &mut [u8]) -> Value {
     if refusal != 0 {
         return Value { refusal, value: 0 };
     }
-    let numbers = run.numbers();
+    let numbers: [u64; 6] = run.into();
     let length: usize = numbers.iter().map(|&number| digits(number) + 1).sum();
     if buffer.len() < length {
         return Value { refusal: BUFFER_TOO_SHORT, value: 0 };
@@ -190,7 +190,7 @@ fn read(bytes: &[u8], at: usize) -> Result<(Run, usize), u64> {
     for (number, end) in numbers.iter_mut().zip(*b",,,,,\n") {
         (*number, next) = field(bytes, next, end).ok_or(MALFORMED_LINE)?;
     }
-    let run = Run::of(numbers);
+    let run = Run::from(numbers);
     match run_refusal(run) {
         0 => Ok((run, next)),
         refusal => Err(refusal),
@@ -200,9 +200,9 @@ fn read(bytes: &[u8], at: usize) -> Result<(Run, usize), u64> {
 #[inline(never)]
 pub fn read_line(bytes: &[u8]) -> RunReply {
     match read(bytes, 0) {
-        Ok((run, end)) if end == bytes.len() => RunReply::accepted(run),
-        Ok(_) => RunReply::refused(MALFORMED_LINE),
-        Err(refusal) => RunReply::refused(refusal),
+        Ok((run, end)) if end == bytes.len() => accepted(run),
+        Ok(_) => refused(MALFORMED_LINE),
+        Err(refusal) => refused(refusal),
     }
 }
 

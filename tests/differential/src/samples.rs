@@ -33,7 +33,7 @@ pub fn full_period_generator(r: &mut Random, width: u64) -> Generator {
 }
 
 /// An accepted generator. The difference of its first elements often ends in many zero bits,
-/// which shortens the cycle.
+/// which shortens the period.
 pub fn accepted_generator(r: &mut Random, width: u64) -> Generator {
     let multiplier = multiplier(r, width);
     let shifts = [0, r.below(width), r.below(width)];
@@ -166,7 +166,7 @@ fn damaged_line(r: &mut Random, line: Vec<u8>) -> Vec<u8> {
 
 /// The bytes of a line, often damaged.
 pub fn line(r: &mut Random) -> Vec<u8> {
-    let line = run(r).line();
+    let line = line_of(&run(r));
     if r.one_in(2) {
         damaged_line(r, line)
     } else {
@@ -206,7 +206,7 @@ pub fn archive(r: &mut Random, numbers: usize) -> Archive {
     let most = r.below(41);
     let runs: Vec<Run> = (0..r.below(most + 1)).map(|_| archive_run(r)).collect();
     let numbers = numbers_for(r, &runs, numbers);
-    let mut lines: Vec<Vec<u8>> = runs.iter().map(Run::line).collect();
+    let mut lines: Vec<Vec<u8>> = runs.iter().map(line_of).collect();
     if !lines.is_empty() && r.one_in(4) {
         let at = r.below(lines.len() as u64) as usize;
         lines[at] = damaged_line(r, lines[at].clone());
@@ -223,7 +223,7 @@ fn run_of_length(length: usize) -> Run {
         *number = 10u64.pow(more as u32);
         digits -= more;
     }
-    Run::of(numbers)
+    Run::from(numbers)
 }
 
 /// An archive of exactly this length, all of whose lines are accepted.
@@ -236,7 +236,7 @@ pub fn archive_of_length(r: &mut Random, length: usize, numbers: usize) -> Archi
             left @ 86..=191 => run_of_length((left / 2).min(85)),
             _ => archive_run(r),
         };
-        bytes.extend(run.line());
+        bytes.extend(line_of(&run));
         runs.push(run);
     }
     Archive { bytes, numbers: numbers_for(r, &runs, numbers) }

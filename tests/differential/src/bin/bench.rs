@@ -116,10 +116,10 @@ fn wide_run(r: &mut Random) -> Run {
 /// Lines of wide runs, as many as fit, and the last run.
 fn archive(r: &mut Random, length: usize) -> (Vec<u8>, Run) {
     let mut last = wide_run(r);
-    let mut bytes = last.line();
+    let mut bytes = line_of(&last);
     loop {
         let run = wide_run(r);
-        let line = run.line();
+        let line = line_of(&run);
         if bytes.len() + line.len() > length {
             return (bytes, last);
         }
@@ -183,7 +183,7 @@ fn calls(out: &Output, r: &mut Random) {
     out.row("index", "width 64, never, seen at the lowest place", || index(&several(|_| never_at(r, 1))));
     out.row("index", "width 64, never, seen at place 62", || index(&several(|_| never_at(r, 63))));
     let runs = several(|_| wide_run(r));
-    let lines: Vec<Vec<u8>> = runs.iter().map(Run::line).collect();
+    let lines: Vec<Vec<u8>> = runs.iter().map(line_of).collect();
     out.row("read_line", "about 95 bytes", || read_line(&lines));
     out.row("write_line", "about 95 bytes", || write_line(&runs));
     let (bytes, last) = archive(r, ARCHIVE_LIMIT);

@@ -265,7 +265,7 @@ fn random_generators(r: &mut Random, tally: &mut Tally, calls: u64) {
 fn random_lines(r: &mut Random, tally: &mut Tally, calls: u64) {
     for call in 0..calls {
         let run = samples::run(r);
-        let exact = run.line().len();
+        let exact = line_of(&run).len();
         let lengths = [call as usize % 131, exact, exact - 1];
         let filling = r.word().to_le_bytes();
         let before = std::array::from_fn(|at| filling[at % 8] ^ at as u8);

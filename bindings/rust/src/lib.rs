@@ -1,0 +1,258 @@
+//! The demo-run archive, proved: safe functions over the library `libnoonpasture.a`.
+//!
+//! Every call takes any numbers and any bytes, and gives the full answer or the refusal fixed for
+//! that input; nothing has to be checked beforehand. `docs/SCOPE.md` of the repository says what
+//! each one means.
+//!
+//! ```
+//! use noonpasture::{lookup, Location};
+//!
+//! let archive = b"4,5,3,1,0,16\n10,371,995,73,100,8\n";
+//! assert_eq!(lookup(archive, 5), Ok(Some(Location { line: 1, position: 4 })));
+//! assert_eq!(lookup(archive, 49), Ok(Some(Location { line: 2, position: 0 })));
+//! assert_eq!(lookup(archive, 985), Ok(None));
+//! ```
+//!
+//! The library is looked for in the folder `NOONPASTURE_LIB`, else where `rt staticlib noonpasture`
+//! writes it.
+
+pub mod raw;
+mod refusal;
+
+pub use refusal::{Refusal, Refused};
+
+/// `NP_VERSION` of the header.
+pub const VERSION: &str = env!("CARGO_PKG_VERSION");
+/// No line of a run is longer, its byte 10 included.
+pub const LINE_MAX: usize = 107;
+/// No accepted archive is longer.
+pub const ARCHIVE_MAX: usize = 65_536;
+
+/// A linear congruential sequence. Element 0 is the seed; element i + 1 is
+/// `multiplier` × (element i) + `increment` modulo 2^`width`.
+///
+/// It is accepted when the width is 1 to 64 and the other three are below 2^`width`.
+#[repr(C)]
+#[derive(Clone, Copy, Debug, Default, PartialEq, Eq, Hash)]
+pub struct Generator {
+    pub width: u64,
+    pub multiplier: u64,
+    pub increment: u64,
+    pub seed: u64,
+}
+
+/// A stretch of a generator's elements: position p, below `count`, shows element `first` + p.
+///
+/// It is accepted when its generator is, `count` is at least 1 and `first` + `count` at most
+/// 2^64 − 1.
+#[repr(C)]
+#[derive(Clone, Copy, Debug, Default, PartialEq, Eq, Hash)]
+pub struct Run {
+    pub generator: Generator,
+    pub first: u64,
+    pub count: u64,
+}
+
+/// The run of a line's six numbers, in their order.
+impl From<[u64; 6]> for Run {
+    fn from([width, multiplier, increment, seed, first, count]: [u64; 6]) -> Run {
+        let generator = Generator { width, multiplier, increment, seed };
+        Run { generator, first, count }
+    }
+}
+
+/// The six numbers of a run's line, in their order.
+impl From<Run> for [u64; 6] {
+    fn from(run: Run) -> [u64; 6] {
+        let Generator { width, multiplier, increment, seed } = run.generator;
+        [width, multiplier, increment, seed, run.first, run.count]
+    }
+}
+
+/// Where a sequence begins to repeat itself, and after how many elements.
+#[derive(Clone, Copy, Debug, PartialEq, Eq, Hash)]
+pub struct Orbit {
+    /// The least index whose element occurs again at a later index.
+    pub preperiod: u64,
+    /// The period is 2 to this power, 0 to 64.
+    pub exponent: u64,
+}
+
+impl Orbit {
+    pub fn period(self) -> u128 {
+        1 << self.exponent
+    }
+}
+
+/// Where a value first occurs in a sequence that has no end.
+#[derive(Clone, Copy, Debug, PartialEq, Eq, Hash)]
+pub enum Index {
+    /// At this index and at none below it.
+    At(u64),
+    /// At no index, however large.
+    Never,
+}
+
+/// A place in an archive: the number of a line, from 1, and a position of its run, from 0.
+#[derive(Clone, Copy, Debug, PartialEq, Eq, Hash)]
+pub struct Location {
+    pub line: u64,
+    pub position: u64,
+}
+
+/// The value of a reply, or its refusal.
+fn value(reply: raw::Value) -> Result<u64, Refusal> {
+    Refusal::of(reply.refusal).map(|()| reply.value)
+}
+
+/// The element at an index.
+///
+/// ```
+/// use noonpasture::{element, Generator, Refusal};
+///
+/// let g = Generator { width: 10, multiplier: 371, increment: 995, seed: 73 };
+/// assert_eq!(element(g, 1000), Ok(985));
+/// assert_eq!(element(Generator { width: 65, ..g }, 0), Err(Refusal::WidthOutOfRange));
+/// assert_eq!(element(Generator { seed: 1024, ..g }, 0), Err(Refusal::OperandOutOfRange));
+/// ```
+pub fn element(g: Generator, index: u64) -> Result<u64, Refusal> {
+    value(raw::element(g, index))
+}
+
+/// The preperiod and the period.
+///
+/// ```
+/// use noonpasture::{orbit, Generator, Orbit};
+///
+/// let g = Generator { width: 4, multiplier: 6, increment: 1, seed: 1 };
+/// assert_eq!(orbit(g), Ok(Orbit { preperiod: 3, exponent: 0 }));
+/// let counter = Generator { width: 64, multiplier: 1, increment: 1, seed: 0 };
+/// assert_eq!(orbit(counter).unwrap().period(), 1 << 64);
+/// ```
+pub fn orbit(g: Generator) -> Result<Orbit, Refusal> {
+    let raw::OrbitReply { refusal, preperiod, exponent } = raw::orbit(g);
+    Refusal::of(refusal).map(|()| Orbit { preperiod, exponent })
+}
+
+/// The least index that yields the value, or never.
+///
+/// ```
+/// use noonpasture::{index, Generator, Index};
+///
+/// let g = Generator { width: 4, multiplier: 5, increment: 3, seed: 1 };
+/// assert_eq!(index(g, 6), Ok(Index::At(15)));
+/// assert_eq!(index(g, 16), Ok(Index::Never));
+/// ```
+pub fn index(g: Generator, value: u64) -> Result<Index, Refusal> {
+    let raw::IndexReply { refusal, found, index } = raw::index(g, value);
+    Refusal::of(refusal).map(|()| if found == 0 { Index::Never } else { Index::At(index) })
+}
+
+/// The only number below 2^width that one step takes to the value.
+///
+/// ```
+/// use noonpasture::{predecessor, Generator, Refusal};
+///
+/// let g = Generator { width: 4, multiplier: 5, increment: 3, seed: 1 };
+/// assert_eq!(predecessor(g, 8), Ok(1));
+/// assert_eq!(predecessor(g, 16), Err(Refusal::ValueOutOfRange));
+/// assert_eq!(predecessor(Generator { multiplier: 6, ..g }, 8), Err(Refusal::NotInvertible));
+/// ```
+pub fn predecessor(g: Generator, value: u64) -> Result<u64, Refusal> {
+    self::value(raw::predecessor(g, value))
+}
+
+/// The largest odd power of 5 below 2^width, for widths from 3 to 64.
+///
+/// ```
+/// use noonpasture::{customary_multiplier, Refusal};
+///
+/// assert_eq!(customary_multiplier(36), Ok(30_517_578_125));
+/// assert_eq!(customary_multiplier(2), Err(Refusal::WidthOutOfRange));
+/// ```
+pub fn customary_multiplier(width: u64) -> Result<u64, Refusal> {
+    value(raw::customary_multiplier(width))
+}
+
+/// The smaller of the run's count and its generator's period.
+///
+/// ```
+/// use noonpasture::{variety, Refusal, Run};
+///
+/// assert_eq!(variety(Run::from([4, 5, 3, 1, 0, 20])), Ok(16));
+/// assert_eq!(variety(Run::from([4, 5, 3, 1, 0, 0])), Err(Refusal::RunOutOfRange));
+/// ```
+pub fn variety(run: Run) -> Result<u64, Refusal> {
+    value(raw::variety(run))
+}
+
+/// Writes the run's line from the buffer's first byte on and gives its length; the bytes behind it
+/// are kept, and all of them if the call is refused. [`LINE_MAX`] bytes always suffice.
+///
+/// ```
+/// use noonpasture::{write_line, Refusal, Run, LINE_MAX};
+///
+/// let run = Run::from([4, 5, 3, 1, 0, 16]);
+/// let mut buffer = [0; LINE_MAX];
+/// let length = write_line(run, &mut buffer)?;
+/// assert_eq!(&buffer[..length], b"4,5,3,1,0,16\n");
+/// assert_eq!(write_line(run, &mut buffer[..12]), Err(Refusal::BufferTooShort));
+/// # Ok::<(), Refusal>(())
+/// ```
+pub fn write_line(run: Run, buffer: &mut [u8]) -> Result<usize, Refusal> {
+    value(raw::write_line(run, buffer)).map(|length| length as usize)
+}
+
+/// The run of bytes that are one line, its byte 10 included.
+///
+/// ```
+/// use noonpasture::{read_line, Refusal, Run};
+///
+/// assert_eq!(read_line(b"4,5,3,1,0,16\n"), Ok(Run::from([4, 5, 3, 1, 0, 16])));
+/// assert_eq!(read_line(b"4,5,3,1,0,16\r\n"), Err(Refusal::MalformedLine));
+/// assert_eq!(read_line(b""), Err(Refusal::MalformedLine));
+/// ```
+pub fn read_line(bytes: &[u8]) -> Result<Run, Refusal> {
+    let raw::RunReply { refusal, run } = raw::read_line(bytes);
+    Refusal::of(refusal).map(|()| run)
+}
+
+/// The line with this number, its byte 10 included, as a part of the archive itself; the empty part
+/// if the archive is refused or has no such line.
+///
+/// ```
+/// use noonpasture::line;
+///
+/// let archive = b"4,5,3,1,0,16\n10,371,995,73,100,8\n";
+/// assert_eq!(line(archive, 2), b"10,371,995,73,100,8\n");
+/// assert_eq!(line(archive, 3), b"");
+/// ```
+pub fn line(archive: &[u8], line: u64) -> &[u8] {
+    let raw::Part { start, length } = raw::line(archive, line);
+    &archive[start as usize..][..length as usize]
+}
+
+/// The earliest line that shows the value and the least position in it, if there is one. The whole
+/// archive is checked first.
+///
+/// ```
+/// use noonpasture::{lookup, Location, Refusal, Refused};
+///
+/// assert_eq!(lookup(b"4,5,3,1,0,16\n", 5), Ok(Some(Location { line: 1, position: 4 })));
+/// assert_eq!(lookup(b"", 5), Ok(None));
+/// let refused = lookup(b"4,5,3,1,0,16\n4,5,3,1,0,0\n", 5).unwrap_err();
+/// assert_eq!(refused, Refused { refusal: Refusal::RunOutOfRange, line: 2 });
+/// assert_eq!(refused.to_string(), "line 2: the count is 0, or first + count is above 2^64 - 1");
+/// ```
+pub fn lookup(archive: &[u8], value: u64) -> Result<Option<Location>, Refused> {
+    let raw::LookupReply { refusal, line, found, position } = raw::lookup(archive, value);
+    match Refusal::of(refusal) {
+        Ok(()) => Ok((found != 0).then_some(Location { line, position })),
+        Err(refusal) => Err(Refused { refusal, line }),
+    }
+}
+
+/// The examples of the repository's README.
+#[cfg(doctest)]
+#[doc = include_str!("../../../README.md")]
+struct Readme;

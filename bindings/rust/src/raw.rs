@@ -1,0 +1,112 @@
+//! The calls with the replies of `include/noonpasture.h` as they are: a refusal's number (0 for
+//! none) and zeros beside it. The functions of the crate's root read them.
+
+use crate::{Generator, Run};
+
+#[repr(C)]
+#[derive(Clone, Copy, Debug, Default, PartialEq, Eq)]
+pub struct Value {
+    pub refusal: u64,
+    pub value: u64,
+}
+
+#[repr(C)]
+#[derive(Clone, Copy, Debug, Default, PartialEq, Eq)]
+pub struct OrbitReply {
+    pub refusal: u64,
+    pub preperiod: u64,
+    pub exponent: u64,
+}
+
+/// `found` is 0 for never.
+#[repr(C)]
+#[derive(Clone, Copy, Debug, Default, PartialEq, Eq)]
+pub struct IndexReply {
+    pub refusal: u64,
+    pub found: u64,
+    pub index: u64,
+}
+
+#[repr(C)]
+#[derive(Clone, Copy, Debug, Default, PartialEq, Eq)]
+pub struct RunReply {
+    pub refusal: u64,
+    pub run: Run,
+}
+
+/// `found` is 0 for none, and then `line` is 0 or the line that the refusal concerns.
+#[repr(C)]
+#[derive(Clone, Copy, Debug, Default, PartialEq, Eq)]
+pub struct LookupReply {
+    pub refusal: u64,
+    pub line: u64,
+    pub found: u64,
+    pub position: u64,
+}
+
+/// `length` is 0 for the empty part.
+#[repr(C)]
+#[derive(Clone, Copy, Debug, Default, PartialEq, Eq)]
+pub struct Part {
+    pub start: u64,
+    pub length: u64,
+}
+
+mod foreign {
+    use super::*;
+
+    extern "C" {
+        pub fn np_element(g: Generator, index: u64) -> Value;
+        pub fn np_orbit(g: Generator) -> OrbitReply;
+        pub fn np_index(g: Generator, value: u64) -> IndexReply;
+        pub fn np_predecessor(g: Generator, value: u64) -> Value;
+        pub fn np_customary_multiplier(width: u64) -> Value;
+        pub fn np_variety(run: Run) -> Value;
+        pub fn np_write_line(run: Run, buffer: *mut u8, length: usize) -> Value;
+        pub fn np_read_line(bytes: *const u8, length: usize) -> RunReply;
+        pub fn np_line(archive: *const u8, length: usize, line: u64) -> Part;
+        pub fn np_lookup(archive: *const u8, length: usize, value: u64) -> LookupReply;
+    }
+}
+
+// Safety of all calls below: numbers may be any, and each pointer comes with its slice's length.
+
+pub fn element(g: Generator, index: u64) -> Value {
+    unsafe { foreign::np_element(g, index) }
+}
+
+pub fn orbit(g: Generator) -> OrbitReply {
+    unsafe { foreign::np_orbit(g) }
+}
+
+pub fn index(g: Generator, value: u64) -> IndexReply {
+    unsafe { foreign::np_index(g, value) }
+}
+
+pub fn predecessor(g: Generator, value: u64) -> Value {
+    unsafe { foreign::np_predecessor(g, value) }
+}
+
+pub fn customary_multiplier(width: u64) -> Value {
+    unsafe { foreign::np_customary_multiplier(width) }
+}
+
+pub fn variety(run: Run) -> Value {
+    unsafe { foreign::np_variety(run) }
+}
+
+pub fn write_line(run: Run, buffer: &mut [u8]) -> Value {
+    unsafe { foreign::np_write_line(run, buffer.as_mut_ptr(), buffer.len()) }
+}
+
+pub fn read_line(bytes: &[u8]) -> RunReply {
+    unsafe { foreign::np_read_line(bytes.as_ptr(), bytes.len()) }
+}
+
+pub fn line(archive: &[u8], line: u64) -> Part {
+    unsafe { foreign::np_line(archive.as_ptr(), archive.len(), line) }
+}
+
+pub fn lookup(archive: &[u8], value: u64) -> LookupReply {
+    unsafe { foreign::np_lookup(archive.as_ptr(), archive.len(), value) }
+}

@@ -1,0 +1,83 @@
+//! Why a call is refused.
+
+use std::error::Error;
+use std::fmt::{self, Display, Formatter};
+
+/// Why a call is refused: the lowest that applies. The numbers are those of
+/// `include/noonpasture.h`.
+#[derive(Clone, Copy, Debug, PartialEq, Eq, Hash)]
+#[non_exhaustive]
+pub enum Refusal {
+    ArchiveTooLong = 1,
+    MalformedLine,
+    WidthOutOfRange,
+    OperandOutOfRange,
+    RunOutOfRange,
+    ValueOutOfRange,
+    NotInvertible,
+    BufferTooShort,
+}
+
+impl Refusal {
+    /// All of them, in the order of their numbers, which begin with 1.
+    pub const ALL: [Refusal; 8] = [
+        Refusal::ArchiveTooLong,
+        Refusal::MalformedLine,
+        Refusal::WidthOutOfRange,
+        Refusal::OperandOutOfRange,
+        Refusal::RunOutOfRange,
+        Refusal::ValueOutOfRange,
+        Refusal::NotInvertible,
+        Refusal::BufferTooShort,
+    ];
+
+    /// ```
+    /// assert_eq!(noonpasture::Refusal::BufferTooShort.number(), 8);
+    /// ```
+    pub fn number(self) -> u64 {
+        self as u64
+    }
+
+    /// Of a reply's first field: nothing if it is 0.
+    pub(crate) fn of(number: u64) -> Result<(), Refusal> {
+        match number {
+            0 => Ok(()),
+            _ => Err(Refusal::ALL[number as usize - 1]),
+        }
+    }
+}
+
+impl Display for Refusal {
+    fn fmt(&self, f: &mut Formatter) -> fmt::Result {
+        f.write_str(match self {
+            Refusal::ArchiveTooLong => "the archive has more than 65,536 bytes",
+            Refusal::MalformedLine => "bytes that are not a valid line",
+            Refusal::WidthOutOfRange => "the width is out of range",
+            Refusal::OperandOutOfRange => "the multiplier, the increment or the seed is 2^width or more",
+            Refusal::RunOutOfRange => "the count is 0, or first + count is above 2^64 - 1",
+            Refusal::ValueOutOfRange => "the value is 2^width or more",
+            Refusal::NotInvertible => "the multiplier is even, so there is no single predecessor",
+            Refusal::BufferTooShort => "the buffer is shorter than the line",
+        })
+    }
+}
+
+impl Error for Refusal {}
+
+/// The refusal of an archive, with the number of the line that it concerns; 0 for none.
+#[derive(Clone, Copy, Debug, PartialEq, Eq, Hash)]
+pub struct Refused {
+    pub refusal: Refusal,
+    pub line: u64,
+}
+
+impl Display for Refused {
+    fn fmt(&self, f: &mut Formatter) -> fmt::Result {
+        match self.line {
+            0 => self.refusal.fmt(f),
+            line => write!(f, "line {line}: {}", self.refusal),
+        }
+    }
+}
+
+impl Error for Refused {}

@@ -1,0 +1,165 @@
+/* Makes every call of include/noonpasture.h, good and refused, as the reference's vectors ask, and
+ * prints the replies:
+ *
+ *     calls <crates/vectors/stdin | cmp - crates/vectors/stdout
+ *
+ * tests/reference/make_vectors.py makes both files and says how a call is written. A pointer to no
+ * bytes is null here. Compiles as C99 and as C++17. */
+
+#include <inttypes.h>
+#include <stdarg.h>
+#include <stdio.h>
+#include <stdlib.h>
+#include <string.h>
+
+#include "noonpasture.h"
+
+enum { NUMBERS = 256 };
+
+static uint64_t numbers[NUMBERS]; /* of the call in hand */
+static uint8_t room[NUMBERS];     /* for its bytes */
+
+static void fail(const char *what)
+{
+    printf("%s\n", what);
+    exit(1);
+}
+
+/* Reads the next call and gives its letter; 0 at the end. */
+static int next_call(void)
+{
+    int letter = getchar(), mark, count = 0;
+
+    if (letter == EOF)
+        return 0;
+    memset(numbers, 0, sizeof numbers);
+    while ((mark = getchar()) == ',')
+        if (count == NUMBERS || scanf("%" SCNu64, &numbers[count++]) != 1)
+            fail("a call that does not read");
+    if (mark != '\n')
+        fail("a call without its byte 10");
+    return letter;
+}
+
+static np_generator generator(void)
+{
+    np_generator g = {numbers[0], numbers[1], numbers[2], numbers[3]};
+    return g;
+}
+
+static np_run run(void)
+{
+    np_run r = {generator(), numbers[4], numbers[5]};
+    return r;
+}
+
+/* The bytes whose count is the number at this place. */
+static const uint8_t *bytes(size_t at)
+{
+    uint64_t count = numbers[at], i;
+
+    if (count >= NUMBERS - at)
+        fail("a call with too many bytes");
+    for (i = 0; i < count; i++)
+        room[i] = (uint8_t)numbers[at + 1 + i];
+    return count == 0 ? NULL : room;
+}
+
+/* Prints numbers, each a uint64_t. */
+static void print(int count, ...)
+{
+    va_list list;
+
+    va_start(list, count);
+    for (; count > 0; count--)
+        printf("%" PRIu64 "%c", va_arg(list, uint64_t), count == 1 ? '\n' : ',');
+    va_end(list);
+}
+
+static void print_value(np_value v)
+{
+    print(2, v.refusal, v.value);
+}
+
+/* The whole buffer is compared with what printf makes of an accepted run, or with what it was. */
+static void write_line(np_run r, uint64_t length)
+{
+    uint8_t buffer[NUMBERS], wanted[NUMBERS];
+    char line[NP_LINE_MAX + 21];
+    np_value v;
+
+    if (length > NUMBERS)
+        fail("a buffer that is too long");
+    memset(buffer, 165, sizeof buffer);
+    memset(wanted, 165, sizeof wanted);
+    v = np_write_line(r, length == 0 ? NULL : buffer, (size_t)length);
+    if (v.refusal == 0) {
+        snprintf(line, sizeof line, "%" PRIu64 ",%" PRIu64 ",%" PRIu64 ",%" PRIu64 ",%" PRIu64 ",%" PRIu64 "\n",
+                 r.generator.width, r.generator.multiplier, r.generator.increment, r.generator.seed, r.first, r.count);
+        memcpy(wanted, line, strlen(line));
+    }
+    if (memcmp(buffer, wanted, sizeof buffer) != 0)
+        fail("a buffer with other bytes");
+    print_value(v);
+}
+
+static void print_orbit(np_orbit_reply r)
+{
+    print(3, r.refusal, r.preperiod, r.exponent);
+}
+
+static void print_index(np_index_reply r)
+{
+    print(3, r.refusal, r.found, r.index);
+}
+
+static void print_run(np_run_reply r)
+{
+    np_generator g = r.run.generator;
+    print(7, r.refusal, g.width, g.multiplier, g.increment, g.seed, r.run.first, r.run.count);
+}
+
+static void print_part(np_part p)
+{
+    print(2, p.start, p.length);
+}
+
+static void print_lookup(np_lookup_reply r)
+{
+    print(4, r.refusal, r.line, r.found, r.position);
+}
+
+/* No vector is long enough for the refusal of an archive's length. */
+static void try_long_archives(void)
+{
+    static uint8_t archive[NP_ARCHIVE_MAX + 1];
+    np_lookup_reply longest = np_lookup(archive, NP_ARCHIVE_MAX, 0);
+    np_lookup_reply too_long = np_lookup(archive, NP_ARCHIVE_MAX + 1, 0);
+
+    if (longest.refusal != NP_REFUSED_MALFORMED_LINE || longest.line != 1)
+        fail("the longest archive is refused for its length");
+    if (too_long.refusal != NP_REFUSED_ARCHIVE_TOO_LONG || too_long.line != 0 || too_long.found != 0)
+        fail("an archive that is too long is not refused for that");
+}
+
+int main(void)
+{
+    int letter;
+
+    try_long_archives();
+    while ((letter = next_call()) != 0)
+        switch (letter) {
+        case 'E': print_value(np_element(generator(), numbers[4])); break;
+        case 'O': print_orbit(np_orbit(generator())); break;
+        case 'I': print_index(np_index(generator(), numbers[4])); break;
+        case 'P': print_value(np_predecessor(generator(), numbers[4])); break;
+        case 'C': print_value(np_customary_multiplier(numbers[0])); break;
+        case 'V': print_value(np_variety(run())); break;
+        case 'W': write_line(run(), numbers[6]); break;
+        case 'R': print_run(np_read_line(bytes(0), (size_t)numbers[0])); break;
+        case 'L': print_part(np_line(bytes(1), (size_t)numbers[1], numbers[0])); break;
+        case 'F': print_lookup(np_lookup(bytes(1), (size_t)numbers[1], numbers[0])); break;
+        default: fail("no such call");
+        }
+    return 0;
+}

@@ -1,4 +1,4 @@
--- An archive of document 01: zero or more lines, one after the other.
+-- An archive of document 01: zero or more lines, one after the other (SCOPE 5.1).
 use mathlib.Core.Path.{_≡_}
 use mathlib.Core.Bool.{true, false}
 use mathlib.Core.List.{List, [], _∷_, _++_, map}

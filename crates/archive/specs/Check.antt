@@ -1,4 +1,4 @@
--- The check of an archive: 1, then line by line.
+-- The check of an archive: 1, then line by line (SCOPE 5.2, 6.9).
 use mathlib.Core.Path.{_≡_}
 use mathlib.Core.Bool.{true, false}
 use mathlib.Core.List.{List, [], _∷_}

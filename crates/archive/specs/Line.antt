@@ -1,4 +1,4 @@
--- The call `line`: a part of the archive itself, the empty part if the archive is refused or has no such line.
+-- The call `line` (SCOPE 5.5): a part of the archive itself, the empty part if the archive is refused or has no such line.
 use mathlib.Core.Path.{_≡_}
 use mathlib.Core.Bool.{true, false}
 use mathlib.Core.List.{List, [], _∷_, map}

@@ -1,4 +1,4 @@
--- The lookup: the earliest place in the archive that shows a number.
+-- The lookup: the earliest place in the archive that shows a number (SCOPE 1.3, 5.3, 5.4).
 use mathlib.Core.Path.{_≡_}
 use mathlib.Core.Logic.{_↔_, _⊎_}
 use mathlib.Core.Bool.{true, false}

@@ -1,4 +1,4 @@
--- The decimal digits of a number, as ASCII bytes.
+-- The decimal digits of a number, as ASCII bytes (SCOPE 4.3).
 use Prim.Native.Nat.{ℕ, zero, suc, _+_, _/_, _%_}
 use mathlib.Core.Bool.{true, false}
 use mathlib.Core.List.{List, [], _∷_, _++_}

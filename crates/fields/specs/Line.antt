@@ -1,4 +1,5 @@
--- The line of some numbers: their fields, separated by commas and ended by the byte 10. And which bytes are such a line.
+-- The line of some numbers: their fields, separated by commas and ended by the byte 10 (SCOPE 4.2). And which bytes are such
+-- a line.
 use mathlib.Core.Bool.{Bool, true, false, _&&_}
 use mathlib.Core.List.{List, [], _∷_, _++_}
 use Prim.Native.Nat.{ℕ, zero, suc, _+_, _*_, _-_, _<_, _^_}

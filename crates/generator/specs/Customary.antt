@@ -1,4 +1,4 @@
--- The customary multiplier of a width.
+-- The customary multiplier of a width (SCOPE 3.5).
 use mathlib.Core.Path.{_≡_}
 use mathlib.Core.Bool.{cond, _||_}
 use mathlib.Core.List.{List}

@@ -1,4 +1,4 @@
--- The predecessor of a number.
+-- The predecessor of a number (SCOPE 3.4).
 use mathlib.Core.Path.{_≡_}
 use mathlib.Core.Bool.{cond}
 use Prim.Native.Nat.{ℕ, _%_, _<_}

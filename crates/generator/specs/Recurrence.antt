@@ -1,4 +1,4 @@
--- The generator of document 01, by its recurrence.
+-- The generator of document 01, by its recurrence (SCOPE 2.1, 2.2).
 use Prim.Native.Nat.{ℕ, zero, suc, _+_, _*_, _%_, _^_}
 use Rattle.generator.specs.declared.Generator.{Generator}
 

@@ -1,4 +1,4 @@
--- When a call on a generator declines, and document 01's number for each refusal.
+-- When a call on a generator declines, and document 01's number for each refusal (SCOPE 6).
 use mathlib.Core.Bool.{Bool, cond, _||_}
 use Prim.Native.Nat.{ℕ, zero, suc}
 use lib.Dec.{eqb, leb, ltb}

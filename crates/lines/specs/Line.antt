@@ -1,4 +1,4 @@
--- The line of a run, of six fields.
+-- The line of a run, of six fields (SCOPE 4.2).
 use mathlib.Core.List.{List, [], _∷_}
 use Prim.Native.Nat.{ℕ, _^_}
 use lib.ListN.{getD}

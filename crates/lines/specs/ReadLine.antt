@@ -1,4 +1,4 @@
--- Reading a line, of any bytes. It rests on `lineOf` alone: the answer is the run whose line the bytes are.
+-- Reading a line, of any bytes (SCOPE 4.4). It rests on `lineOf` alone: the answer is the run whose line the bytes are.
 use mathlib.Core.Path.{_≡_}
 use mathlib.Core.Bool.{true, false}
 use mathlib.Core.List.{List}

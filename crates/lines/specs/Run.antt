@@ -1,4 +1,4 @@
--- A run of document 01: a generator, a first index and a count.
+-- A run of document 01: a generator, a first index and a count (SCOPE 4.1).
 use mathlib.Core.Bool.{Bool, cond, _||_}
 use Prim.Native.Nat.{ℕ, _+_, _^_}
 use lib.Dec.{eqb, leb}

@@ -1,4 +1,4 @@
--- The variety of a run.
+-- The variety of a run (SCOPE 4.6).
 use mathlib.Core.Path.{_≡_}
 use Prim.Native.Nat.{ℕ, min}
 use Rattle.sequences.specs.Orbit.{periodOf, IsOrbit}

@@ -1,4 +1,4 @@
--- Writing a run's line into a buffer.
+-- Writing a run's line into a buffer (SCOPE 4.5).
 use mathlib.Core.Path.{_≡_}
 use mathlib.Core.Bool.{cond}
 use mathlib.Core.List.{List, _++_}

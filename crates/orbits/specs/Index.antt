@@ -1,4 +1,4 @@
--- The least index of a generator that yields a number, or never.
+-- The least index of a generator that yields a number, or never (SCOPE 3.3).
 use mathlib.Core.Path.{_≡_}
 use mathlib.Core.Bool.{cond}
 use Prim.Native.Nat.{ℕ, zero, suc}

@@ -1,4 +1,4 @@
--- The orbit of a generator.
+-- The orbit of a generator (SCOPE 3.2).
 use mathlib.Core.Path.{_≡_}
 use Prim.Native.Nat.{ℕ, zero, suc, _+_, _%_, _^_, _≤_, _<_}
 use lib.Dec.{eqb}

@@ -1,4 +1,4 @@
--- The ten proved rows of document 01's worked runs, and the theorem that covers them.
+-- The ten proved rows of document 01's worked runs (SCOPE 8.1 to 8.10), and the theorem that covers them.
 use mathlib.Core.Path.{_≡_}
 use mathlib.Core.List.{List, [], _∷_}
 use Prim.Native.Nat.{ℕ, suc}

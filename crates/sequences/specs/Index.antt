@@ -1,4 +1,4 @@
--- The least index at which a sequence yields a number, or never.
+-- The least index at which a sequence yields a number, or never (SCOPE 1.4, 3.3).
 use mathlib.Core.Path.{_≡_}
 use mathlib.Core.Logic.{_↔_}
 use Prim.Native.Nat.{ℕ, _≤_, _<_}

@@ -1,4 +1,4 @@
--- The orbit of a sequence of numbers: preperiod (document 01: run-in) and period (document 01: cycle length).
+-- The orbit of a sequence of numbers: preperiod (document 01: run-in) and period (document 01: cycle length; SCOPE 3.2).
 -- The definitions search below a bound; the record says what they find without one.
 use mathlib.Core.Path.{_≡_}
 use Prim.Native.Nat.{ℕ, suc, _+_, _≤_, _<_}

@@ -1,4 +1,4 @@
--- α of document 01, and the first bit place in which two numbers differ.
+-- α of document 01, and the first bit place in which two numbers differ (SCOPE 2.5).
 use mathlib.Core.Path.{_≡_}
 use Prim.Native.Nat.{ℕ, suc, _%_, _^_, _≤_}
 

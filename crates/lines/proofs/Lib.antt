@@ -3,5 +3,7 @@ pub mod Runs
 pub mod Reading
 pub mod RoundTrip
 mod Written
+mod Remaking
 mod Examples
 mod ReadExamples
+mod RemakeExamples

@@ -4,3 +4,4 @@ pub mod Line
 pub mod ReadLine
 pub mod WriteLine
 pub mod Variety
+pub mod Remake

@@ -1,4 +1,4 @@
-// Runs: their lines, read and written, and their variety.
+// Runs: their lines, read and written, their numbers and their variety.
 ghost use mathlib.Core.Path.{_≡_};
 ghost use Rattle.generator.specs.Refusals.{checkNumber};
 ghost use Rattle.generator.specs.Replies.{valueOf};
@@ -6,7 +6,10 @@ ghost use Rattle.lines.specs.Run.{runRefusal};
 ghost use Rattle.lines.specs.ReadLine.{ReadPromise, replyOf};
 ghost use Rattle.lines.specs.WriteLine.{WritePromise};
 ghost use Rattle.lines.specs.Variety.{VarietyPromise};
+ghost use Rattle.lines.specs.Remake.{RemakePromise};
 use fields::line;
+use filling::fill;
+use filling::fitting;
 use generator::Check;
 use generator::Generator;
 use generator::Refusal;
@@ -15,6 +18,7 @@ use numbers::numbers_of;
 use numbers::run_of;
 use orbits::kinds::cycle_of;
 
+pub mod filling;
 pub mod numbers;
 pub mod plain;
 
@@ -103,4 +107,20 @@ pub fn variety(run: Run) -> ValueAnswer
         return ValueAnswer::Value(period);
     }
     ValueAnswer::Value(count)
+}
+
+// Writes what the run shows from this position on to the buffer's front, as much as both have, and gives how many numbers.
+pub fn remake(run: Run, position: u64, numbers: &mut [u64]) -> ValueAnswer
+    ensures { λ r. ⌜ RemakePromise run position (now (numbers .entry)) (now (numbers .exit)) (valueOf r) ⌝ }
+{
+    let verdict = checked(run);
+    if let Check::Refused(refusal) = verdict {
+        return ValueAnswer::Refused(refusal);
+    }
+    if run.count <= position {
+        return ValueAnswer::Value(0);
+    }
+    let n = fitting(numbers.len(), run.count - position);
+    fill(run, position, n, numbers);
+    ValueAnswer::Value(n as u64)
 }

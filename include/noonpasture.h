@@ -11,7 +11,7 @@
  * allocates, keeps a pointer or has a state, so all of them may run at once in several threads.
  *
  * The first field of a reply is the refusal: 0, or the lowest NP_REFUSED_.. that applies. Beside
- * a refusal every other field is 0 (but for the line that it concerns, in a lookup) and no byte
+ * a refusal every other field is 0 (but for the line that it concerns, in a lookup) and nothing
  * is written.
  */
 #ifndef NOONPASTURE_H
@@ -24,7 +24,7 @@
 extern "C" {
 #endif
 
-#define NP_VERSION "0.4.0"
+#define NP_VERSION "0.5.0"
 
 #define NP_LINE_MAX 107       /* no line of a run is longer, its byte 10 included */
 #define NP_ARCHIVE_MAX 65536  /* no accepted archive is longer */
@@ -79,6 +79,11 @@ np_value        np_write_line(np_run run, uint8_t *buffer, size_t length);
 
 /* The run of bytes that are one line, its byte 10 included. Refusals 2, 3, 4, 5. */
 np_run_reply    np_read_line(const uint8_t *bytes, size_t length);
+
+/* Writes the numbers at the position and those after it, from values[0] on, as many as the buffer
+ * has room for and the run still has, keeps the numbers behind them, and gives how many were
+ * written: 0 from the run's count on. Refusals 3, 4, 5. */
+np_value        np_remake(np_run run, uint64_t position, uint64_t *values, size_t capacity);
 
 /* Where the line with this number stands in the archive, its byte 10 included. The empty part,
  * start 0 and length 0, if the archive is refused or has no such line: this call alone gives no

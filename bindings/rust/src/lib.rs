@@ -217,6 +217,26 @@ pub fn read_line(bytes: &[u8]) -> Result<Run, Refusal> {
     Refusal::of(refusal).map(|()| run)
 }
 
+/// Writes the numbers at the position and those after it from the buffer's first place on, as many
+/// as it has room for and the run still has, and gives how many: none from the run's count on. What
+/// stands behind them is kept, and all of it if the call is refused.
+///
+/// ```
+/// use noonpasture::{remake, Refusal, Run};
+///
+/// let run = Run::from([10, 371, 995, 73, 100, 8]);
+/// let mut values = [0; 3];
+/// assert_eq!(remake(run, 0, &mut values), Ok(3));
+/// assert_eq!(values, [49, 742, 821]);
+/// assert_eq!(remake(run, 7, &mut values), Ok(1));
+/// assert_eq!(values, [1002, 742, 821]);
+/// assert_eq!(remake(run, 8, &mut values), Ok(0));
+/// assert_eq!(remake(Run { count: 0, ..run }, 0, &mut values), Err(Refusal::RunOutOfRange));
+/// ```
+pub fn remake(run: Run, position: u64, values: &mut [u64]) -> Result<usize, Refusal> {
+    value(raw::remake(run, position, values)).map(|count| count as usize)
+}
+
 /// The line with this number, its byte 10 included, as a part of the archive itself; the empty part
 /// if the archive is refused or has no such line.
 ///

@@ -64,6 +64,7 @@ mod foreign {
         pub fn np_variety(run: Run) -> Value;
         pub fn np_write_line(run: Run, buffer: *mut u8, length: usize) -> Value;
         pub fn np_read_line(bytes: *const u8, length: usize) -> RunReply;
+        pub fn np_remake(run: Run, position: u64, values: *mut u64, capacity: usize) -> Value;
         pub fn np_line(archive: *const u8, length: usize, line: u64) -> Part;
         pub fn np_lookup(archive: *const u8, length: usize, value: u64) -> LookupReply;
     }
@@ -101,6 +102,10 @@ pub fn write_line(run: Run, buffer: &mut [u8]) -> Value {
 
 pub fn read_line(bytes: &[u8]) -> RunReply {
     unsafe { foreign::np_read_line(bytes.as_ptr(), bytes.len()) }
+}
+
+pub fn remake(run: Run, position: u64, values: &mut [u64]) -> Value {
+    unsafe { foreign::np_remake(run, position, values.as_mut_ptr(), values.len()) }
 }
 
 pub fn line(archive: &[u8], line: u64) -> Part {

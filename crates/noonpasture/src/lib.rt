@@ -11,6 +11,7 @@ ghost use Rattle.orbits.specs.Index.{IndexPromise};
 ghost use Rattle.lines.specs.ReadLine.{ReadPromise};
 ghost use Rattle.lines.specs.WriteLine.{WritePromise};
 ghost use Rattle.lines.specs.Variety.{VarietyPromise};
+ghost use Rattle.lines.specs.Remake.{RemakePromise};
 ghost use Rattle.archive.specs.Line.{PartPromise};
 ghost use Rattle.archive.specs.Lookup.{LookupPromise};
 use archive::LookupReply;
@@ -89,6 +90,14 @@ pub extern "C" fn np_read_line(bytes: &[u8]) -> RunReply
     ensures { λ r. ⌜ ReadPromise (now (bytes .entry)) r ⌝ }
 {
     of_run(lines::read_line(bytes))
+}
+
+// Writes what the run shows from this position on, and gives how many numbers.
+#[no_mangle]
+pub extern "C" fn np_remake(run: Run, position: u64, values: &mut [u64]) -> ValueReply
+    ensures { λ r. ⌜ RemakePromise run position (now (values .entry)) (now (values .exit)) r ⌝ }
+{
+    of_value(lines::remake(run, position, values))
 }
 
 // Where the line with this number stands in the archive.

@@ -103,6 +103,18 @@ static void write_line(np_run r, uint64_t length)
     print_value(v);
 }
 
+/* Lends the first numbers of a buffer, and prints all of them. */
+static void remake(np_run r, uint64_t position, uint64_t lent)
+{
+    uint64_t b[5] = {1, 2, 3, 4, 5};
+    np_value v;
+
+    if (lent > 5)
+        fail("a buffer that is too long");
+    v = np_remake(r, position, lent == 0 ? NULL : b, (size_t)lent);
+    print(7, v.refusal, v.value, b[0], b[1], b[2], b[3], b[4]);
+}
+
 static void print_orbit(np_orbit_reply r)
 {
     print(3, r.refusal, r.preperiod, r.exponent);
@@ -156,6 +168,7 @@ int main(void)
         case 'C': print_value(np_customary_multiplier(numbers[0])); break;
         case 'V': print_value(np_variety(run())); break;
         case 'W': write_line(run(), numbers[6]); break;
+        case 'M': remake(run(), numbers[6], numbers[7]); break;
         case 'R': print_run(np_read_line(bytes(0), (size_t)numbers[0])); break;
         case 'L': print_part(np_line(bytes(1), (size_t)numbers[1], numbers[0])); break;
         case 'F': print_lookup(np_lookup(bytes(1), (size_t)numbers[1], numbers[0])); break;

@@ -14,8 +14,10 @@ The file stdin has one call a line, as decimal numbers separated by commas behin
     R  read line             count of bytes, the bytes                   refusal, the six numbers
     L  line                  number, count of bytes, the bytes           start, length
     F  lookup (find)         number, count of bytes, the bytes           refusal, line, found, position
+    M  remake                the six numbers of a run, position, lent    refusal, count, 5 numbers
 
 The file stdout has the reply to each, the numbers on the right. No call has more than 250 numbers.
+The five numbers of M are a buffer that held 1, 2, 3, 4, 5, and of which the first 0 to 5 were lent.
 """
 
 import random
@@ -40,6 +42,7 @@ REPLY = {
     "R": ref.read_line,
     "L": lambda number, archive: ref.line(archive, number),
     "F": lambda number, archive: ref.lookup(archive, number),
+    "M": ref.remake,
 }
 
 
@@ -320,9 +323,30 @@ def refused_archives():
         yield "L", (1, archive)
 
 
+def positions(count):
+    """At the run's start and end, behind it, anywhere."""
+    return 0, 1, max(count - 3, 0), count - 1, count, min(count + 1, TOP), below(count), below(2**64), TOP
+
+
+def remaking_calls():
+    for position, lent in product(range(10), range(6)):
+        yield "M", (10, 371, 995, 73, 100, 8, position, lent)
+    for g in generators():
+        run = a_run(g)
+        yield "M", (*run, pick(positions(run[5])), 5)
+        yield "M", (*run, pick(positions(run[5])), below(6))
+    for g in WIDE:
+        for first, count in ((TOP - 1, 1), (TOP - 4, 4), (TOP - 9, 9), (0, TOP)):
+            yield "M", (*g, first, count, max(count - 4, 0), 5)
+    for run in ((65, 9, 9, 9, 0, 0), (4, 5, 16, 1, 0, 0), (4, 5, 3, 1, 0, 0), (4, 5, 3, 1, TOP - 1, 2)):
+        for position, lent in product((0, 1, TOP), (0, 1, 5)):
+            yield "M", (*run, position, lent)
+
+
 def all_calls():
     refused = refused_generators, refused_runs, one_way, refused_archives
-    parts = bounds, *refused, long_sequences, wide_calls, printed_tables, valid_calls, reading_calls, archive_calls
+    accepted = long_sequences, wide_calls, printed_tables, valid_calls, reading_calls, archive_calls, remaking_calls
+    parts = bounds, *refused, *accepted
     return dict.fromkeys((code, tuple(args)) for part in parts for code, args in part())
 
 

@@ -21,6 +21,7 @@ pub fn reply(letter: u8, n: &[u64]) -> Reply {
         b'F' => archives::reply(letter, n),
         b'I' => index(n),
         b'L' => archives::reply(letter, n),
+        b'M' => remake(n),
         b'O' => orbit(n),
         b'P' => predecessor(n),
         b'R' => read_line(n),
@@ -83,6 +84,28 @@ fn read_line(n: &[u64]) -> Reply {
         g.seed,
         run.first,
         run.count,
+    )
+}
+
+// The last number is how many of a buffer's five numbers are lent; all five stand in the reply.
+fn remake(n: &[u64]) -> Reply {
+    let mut values = [1u64, 2, 3, 4, 5];
+    if n.len() != 8 {
+        return Reply::Unreadable;
+    }
+    let lent = n[7] as usize;
+    if 5 < lent {
+        return Reply::Unreadable;
+    }
+    let r = of_value(lines::remake(run_of(n), n[6], &mut values[0..lent]));
+    Reply::Seven(
+        r.refusal,
+        r.value,
+        values[0],
+        values[1],
+        values[2],
+        values[3],
+        values[4],
     )
 }
 

@@ -128,6 +128,24 @@ pub fn customary_multiplier(width: u64) -> Value {
     Value { refusal: 0, value: value.unwrap_or(0) as u64 }
 }
 
+/// Each number by itself.
+pub fn remake(run: Run, position: u64, values: &mut [u64]) -> Value {
+    let refusal = run_refusal(run);
+    if refusal != 0 {
+        return Value { refusal, value: 0 };
+    }
+    let trail = is_stepped(run.generator).then(|| Trail::of(run.generator));
+    let mut count = 0;
+    for (value, p) in values.iter_mut().zip(position..run.count) {
+        let index = run.first + p;
+        *value = trail
+            .as_ref()
+            .map_or_else(|| formula::element(run.generator, index), |trail| trail.element(index));
+        count += 1;
+    }
+    Value { refusal: 0, value: count }
+}
+
 // Lines and archives.
 
 pub fn write_line(run: Run, buffer: &mut [u8]) -> Value {
@@ -223,6 +241,11 @@ mod tests {
             "C" => value(customary_multiplier(n[0])),
             "V" => value(variety(run(n))),
             "W" => value(write_line(run(n), &mut vec![0; n[6] as usize])),
+            "M" => {
+                let mut values = [1, 2, 3, 4, 5];
+                let r = remake(run(n), n[6], &mut values[..n[7] as usize]);
+                [&[r.refusal, r.value], values.as_slice()].concat()
+            }
             "O" => {
                 let r = orbit(g(n));
                 vec![r.refusal, r.preperiod, r.exponent]

@@ -135,6 +135,23 @@ pub fn index(g: Generator, number: u64) -> IndexReply {
     }
 }
 
+#[inline(never)]
+pub fn remake(run: Run, position: u64, values: &mut [u64]) -> Value {
+    let refusal = run_refusal(run);
+    let left = run.count.saturating_sub(position);
+    if refusal != 0 || left == 0 {
+        return Value { refusal, value: 0 };
+    }
+    let count = left.min(values.len() as u64);
+    let (one, top) = (Map::step(run.generator), mask(run.generator.width));
+    let mut x = element_of(run.generator, run.first + position);
+    for value in &mut values[..count as usize] {
+        *value = x;
+        x = one.apply(x) & top;
+    }
+    Value { refusal: 0, value: count }
+}
+
 fn digits(number: u64) -> usize {
     1 + number.checked_ilog10().unwrap_or(0) as usize
 }

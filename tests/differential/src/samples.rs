@@ -99,6 +99,13 @@ pub fn run(r: &mut Random) -> Run {
     }
 }
 
+/// A position at the run's start or end, behind it, or anywhere.
+pub fn position(r: &mut Random, run: Run) -> u64 {
+    let at_the_end = run.count.saturating_sub(r.below(20)).saturating_add(r.below(3));
+    let choices = [0, r.below(100), r.below(run.count.max(1)), at_the_end, at_the_end, r.any()];
+    r.pick(&choices)
+}
+
 /// What some position of an accepted run shows, often one of the first.
 fn shown_number(r: &mut Random, run: Run) -> u64 {
     let position = r.below(run.count);

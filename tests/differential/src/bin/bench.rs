@@ -173,6 +173,16 @@ fn write_line(runs: &[Run]) -> Timing {
     measured(runs, |run| library::write_line(run, &mut ours), |run| same_method::write_line(run, &mut theirs))
 }
 
+/// The reply and the last number written are compared.
+fn remake(runs: &[Run], count: usize) -> Timing {
+    let (mut ours, mut theirs) = (vec![0; count], vec![0; count]);
+    measured(
+        runs,
+        |run| (library::remake(run, 0, &mut ours), ours[count - 1]),
+        |run| (same_method::remake(run, 0, &mut theirs), theirs[count - 1]),
+    )
+}
+
 fn calls(out: &Output, r: &mut Random) {
     out.heading("call", "Rust");
     out.row("element", "index near 2^64", || element(&several(|k| (wide_generator(r), u64::MAX - k as u64))));
@@ -186,6 +196,10 @@ fn calls(out: &Output, r: &mut Random) {
     let lines: Vec<Vec<u8>> = runs.iter().map(line_of).collect();
     out.row("read_line", "about 95 bytes", || read_line(&lines));
     out.row("write_line", "about 95 bytes", || write_line(&runs));
+    for (count, name) in [(1 << 20, "2^20 numbers"), (1 << 10, "2^10 numbers")] {
+        let long = |_| Run { count: count as u64, ..wide_run(r) };
+        out.row("remake", name, || remake(&(0..4).map(long).collect::<Vec<_>>(), count));
+    }
     let (bytes, last) = archive(r, ARCHIVE_LIMIT);
     let shown = same_method::element(last.generator, last.first).value;
     let size = bytes.len();

@@ -28,9 +28,10 @@ enum Kind {
     ReadLine,
     Line,
     Lookup,
+    Remake,
 }
 
-const KINDS: [&str; 10] = [
+const KINDS: [&str; 11] = [
     "element",
     "orbit",
     "index",
@@ -41,10 +42,11 @@ const KINDS: [&str; 10] = [
     "read_line",
     "line",
     "lookup",
+    "remake",
 ];
 
 /// What replies are counted by: an answer, a refusal by its number, or nothing, which is never,
-/// none or the empty part.
+/// none, the empty part or no number remade.
 const OUTCOMES: [&str; 10] = ["answer", "1", "2", "3", "4", "5", "6", "7", "8", "nothing"];
 const ANSWER: usize = 0;
 const NOTHING: usize = 9;
@@ -114,9 +116,13 @@ impl Reply for Part {
 }
 
 /// A reply with the buffer's later content.
-impl<const LENGTH: usize> Reply for (Value, [u8; LENGTH]) {
+impl<T: PartialEq + Debug, const LENGTH: usize> Reply for (Value, [T; LENGTH]) {
     fn refusal(&self) -> u64 {
         self.0.refusal
+    }
+
+    fn is_nothing(&self) -> bool {
+        self.0.value == 0
     }
 }
 
@@ -197,6 +203,14 @@ impl Tally {
         self.compare(Kind::WriteLine, &(run, length, before), (library, ours), (model, theirs));
     }
 
+    /// Lends the first `length` numbers of `before`; all numbers are compared afterwards.
+    fn remake(&mut self, run: Run, position: u64, before: [u64; 20], length: usize) {
+        let (mut ours, mut theirs) = (before, before);
+        let library = library::remake(run, position, &mut ours[..length]);
+        let model = model::remake(run, position, &mut theirs[..length]);
+        self.compare(Kind::Remake, &(run, position, length, before), (library, ours), (model, theirs));
+    }
+
     fn read_line(&mut self, bytes: &[u8]) {
         self.compare(Kind::ReadLine, &Bytes(bytes), library::read_line(bytes), model::read_line(bytes));
     }
@@ -226,7 +240,9 @@ fn all_calls_on(tally: &mut Tally, g: Generator) {
     }
     for first in [0, 1, size, u64::MAX - size] {
         for count in [0, 1, 2, size / 2, size - 1, size, size + 1] {
-            tally.variety(Run { generator: g, first, count });
+            let run = Run { generator: g, first, count };
+            tally.variety(run);
+            tally.remake(run, count / 2, [u64::MAX; 20], 19);
         }
     }
 }
@@ -274,6 +290,16 @@ fn random_lines(r: &mut Random, tally: &mut Tally, calls: u64) {
     }
 }
 
+fn random_remakes(r: &mut Random, tally: &mut Tally, calls: u64) {
+    for call in 0..calls {
+        let run = samples::run(r);
+        let filling = r.word();
+        let before = std::array::from_fn(|at| filling ^ at as u64);
+        let lengths = [0, 1, call as usize % 17];
+        tally.remake(run, samples::position(r, run), before, r.pick(&lengths));
+    }
+}
+
 fn on_archive(r: &mut Random, tally: &mut Tally, archive: &samples::Archive) {
     for &number in &archive.numbers {
         tally.lookup(&archive.bytes, number);
@@ -308,6 +334,7 @@ fn random_calls(share: u64) -> Tally {
     random_lines(&mut r, &mut tally, calls);
     random_archives(&mut r, &mut tally, calls);
     long_archives(&mut r, &mut tally);
+    random_remakes(&mut r, &mut tally, calls);
     tally
 }
 

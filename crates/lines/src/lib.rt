@@ -120,7 +120,7 @@ pub fn remake(run: Run, position: u64, numbers: &mut [u64]) -> ValueAnswer
     if run.count <= position {
         return ValueAnswer::Value(0);
     }
-    let n = fitting(numbers.len(), run.count - position);
-    fill(run, position, n, numbers);
-    ValueAnswer::Value(n as u64)
+    let given = fitting(numbers.len(), run.count - position);
+    fill(run, position, given, numbers);
+    ValueAnswer::Value(given as u64)
 }

@@ -1,12 +1,12 @@
 // Finds a number in the archive `archive.csv` of the current folder.
+use archive_io::input::Rest;
+use archive_io::input::read_archive;
+use archive_io::input::read_input;
+use runfind_io::decision::Question;
 use runfind_io::decision::asked;
 use runfind_io::decision::decide;
-use runfind_io::input::Rest;
-use runfind_io::input::read_archive;
-use runfind_io::input::read_input;
 use runfind_io::output::Outcome;
 use runfind_io::output::print_outcome;
-use runfind_io::question::Question;
 
 // The file is opened only if standard input holds a question.
 fn outcome() -> Outcome {

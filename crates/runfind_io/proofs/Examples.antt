@@ -13,14 +13,14 @@ use Rattle.lines.specs.ReadLine.{readOf}
 use Rattle.archive.specs.Archive.{linesOf}
 use Rattle.archive.specs.Check.{firstRefused, checkOf}
 use Rattle.archive.specs.Lookup.{positionOf, firstShowing, lookupOf}
-use Rattle.runfind_io.specs.declared.question.Question.the-variants.{Number, Malformed}
-use Rattle.runfind_io.specs.Decision.{Source, holds, unreadable, askedOf, outcomeFor}
+use Rattle.archive_io.specs.Source.{Source, holds, unreadable}
+use Rattle.runfind_io.specs.declared.decision.Question.the-variants.{Number, Malformed}
+use Rattle.runfind_io.specs.Decision.{askedOf, outcomeFor}
 use Rattle.runfind_io.specs.Output.{outcomeLine}
-use Rattle.runfind_io.specs.Question.{questionOf}
 
 -- the largest question, and bytes that are none
 questions :
-    map questionOf
+    map (λ bytes. askedOf (holds bytes))
     (ascii "18446744073709551615\n"
     ∷ ascii "18446744073709551616\n"
     ∷ ascii "18446744073709551615\nx"
@@ -31,7 +31,7 @@ questions :
     ∷ ascii ""
     ∷ [])
     ≡ Number 18446744073709551615 ∷ Malformed ∷ Malformed ∷ Malformed ∷ Malformed ∷ Malformed ∷ Malformed ∷ Malformed ∷ []
-unfolding questionOf isLine numbersFrom fieldsLine digitsOf lastDigits
+unfolding isLine numbersFrom fieldsLine digitsOf lastDigits
 questions = refl
 
 -- a question, and what the file holds
@@ -50,6 +50,6 @@ answers :
     ∷ printed (ascii "5") unreadable
     ∷ []
     ≡ ascii "1,4\n" ∷ ascii "2,0\n" ∷ ascii "none\n" ∷ ascii "refused,2,2\n" ∷ ascii "unread\n" ∷ ascii "question\n" ∷ []
-unfolding questionOf lookupOf firstShowing positionOf least shows element step
+unfolding lookupOf firstShowing positionOf least shows element step
     checkOf firstRefused linesOf readOf isLine numbersFrom fieldsLine digitsOf lastDigits runRefusal refusalOf modulus
 answers = refl

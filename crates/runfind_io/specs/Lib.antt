@@ -1,5 +1,3 @@
--- What the contracts of this crate cite. All but `Input` is what has to be believed of the program.
-pub mod Question
+-- What the contracts of this crate cite, and what has to be believed of the program.
 pub mod Output
 pub mod Decision
-pub mod Input

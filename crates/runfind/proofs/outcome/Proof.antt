@@ -1,5 +1,5 @@
 -- `runfind::outcome` meets its contract: each buffer is as large as the decision asks where more may follow.
-use Rattle.runfind_io.proofs.Filling.{enough}
+use Rattle.archive_io.proofs.Filling.{enough}
 use borrow.Author.Needs.{needs}
 use Rattle.runfind.proofs.outcome.Statement.{statement}
 use Rattle.runfind.proofs.outcome.Tie as tie

@@ -1,31 +1,24 @@
--- `decision::asked` meets its contract, by what follows the bytes read.
-use Rattle.runfind_io.proofs.Deciding.{asked-all, asked-front, asked-none}
+-- `decision::asked` meets its contract: standard input holds one field, or there is no question.
+use borrow.Author.Tests.{not-true, not-false}
+use Rattle.runfind_io.proofs.Deciding.{asked-none, asked-number}
 use borrow.Author.Needs.{needs}
 use Rattle.runfind_io.proofs.decision.asked.Statement.{statement}
 use Rattle.runfind_io.proofs.decision.asked.Tie as tie
 
-parse-requires : tie.Need-parse-requires
-parse-requires c κs = search needs
+slice-aggregate-ask : tie.Need-slice-aggregate-ask
+slice-aggregate-ask c = search needs
 
-enum-told : tie.Need-enum-told
-enum-told c = search needs
-
-enum-told-2 : tie.Need-enum-told-2
-enum-told-2 c = search needs
-
-enum-told-3 : tie.Need-enum-told-3
-enum-told-3 c = search needs
+ask-requires : tie.Need-ask-requires
+ask-requires c κs = search needs
 
 returns : tie.Need-returns
-returns c = asked-all (c .enum-told .given .1) (c .before .before .parse .ensures)
+returns c = asked-none (c .before .before .ask .ensures) (not-true _ (c .if1 .taken))
+
+array-read-t10 : tie.Need-array-read-t10
+array-read-t10 c = search needs
 
 returns-2 : tie.Need-returns-2
-returns-2 c = asked-front (c .enum-told2 .given .1) (c .before .before .before .before .pre) (c .before .before .parse .ensures)
-
-returns-3 : tie.Need-returns-3
-returns-3 c = asked-none (c .enum-told3 .given .1)
+returns-2 c = asked-number (c .before .before .ask .ensures) (not-false _ (c .if1 .left))
 
 pub asked-spec : {M : Type 1} → statement M
-asked-spec =
-    tie.close
-    (tie.spec parse-requires enum-told enum-told-2 enum-told-3 returns returns-2 returns-3)
+asked-spec = tie.close (tie.spec slice-aggregate-ask ask-requires returns array-read-t10 returns-2)

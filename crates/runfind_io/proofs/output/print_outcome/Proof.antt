@@ -1,6 +1,6 @@
 -- `output::print_outcome` is safe and ends: the line is within the buffer.
 use Rattle.io.proofs.Counting.{counts}
-use Rattle.runfind_io.proofs.FrontWriting.{within}
+use Rattle.archive_io.proofs.FrontWriting.{within}
 use borrow.Author.Needs.{needs}
 use Rattle.runfind_io.proofs.output.print_outcome.Statement.{statement}
 use Rattle.runfind_io.proofs.output.print_outcome.Tie as tie
@@ -14,23 +14,17 @@ write-outcome-requires c κs = search needs
 array-share-prefix-buf : tie.Need-array-share-prefix-buf
 array-share-prefix-buf c = within (c .before .write-outcome .ensures)
 
-slice-aggregate-write-all : tie.Need-slice-aggregate-write-all
-slice-aggregate-write-all c = counts _ _ (within (c .before .before .write-outcome .ensures)) .1
+slice-aggregate-print : tie.Need-slice-aggregate-print
+slice-aggregate-print c = counts _ _ (within (c .before .before .write-outcome .ensures)) .1
 
-write-all-requires : tie.Need-write-all-requires
-write-all-requires c κs = search needs
+slice-aggregate-print-2 : tie.Need-slice-aggregate-print-2
+slice-aggregate-print-2 c = search needs
 
-slice-aggregate-write-all-2 : tie.Need-slice-aggregate-write-all-2
-slice-aggregate-write-all-2 c = search needs
-
-write-all-requires-2 : tie.Need-write-all-requires-2
-write-all-requires-2 c κs = search needs
+print-requires : tie.Need-print-requires
+print-requires c κs = search needs
 
 returns : tie.Need-returns
 returns c = search needs
-
-returns-2 : tie.Need-returns-2
-returns-2 c = search needs
 
 pub print-outcome-spec : {M : Type 1} → statement M
 print-outcome-spec =
@@ -39,9 +33,7 @@ print-outcome-spec =
     slice-aggregate-write-outcome
     write-outcome-requires
     array-share-prefix-buf
-    slice-aggregate-write-all
-    write-all-requires
-    slice-aggregate-write-all-2
-    write-all-requires-2
-    returns
-    returns-2)
+    slice-aggregate-print
+    slice-aggregate-print-2
+    print-requires
+    returns)

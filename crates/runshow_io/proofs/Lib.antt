@@ -1,0 +1,3 @@
+-- `Answering` has what each way out of the answer shows, and `Deciding` what the question shows.
+pub mod Answering
+pub mod Deciding

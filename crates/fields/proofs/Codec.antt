@@ -149,45 +149,43 @@ line-bound (v ∷ vs) below =
 
 -- Writing.
 
--- the buffer, as before it was written to but for the first k fields, which stand up to `at`
-pub record WrittenSoFar (vs before buf : List ℕ) (at k : ℕ) : Type 0 where
+-- the buffer, as before it was written to but for the bytes up to `at`, which make the whole with what is left
+pub record FrontSoFar (whole left before buf : List ℕ) (at : ℕ) : Type 0 where
   pub kept : length buf ≡ length before
   pub within : at ≤ length buf
-  pub front : fieldsLine vs ≡ take at buf ++ fieldsLine (drop k vs)
+  pub front : whole ≡ take at buf ++ left
   pub behind : drop at buf ≡ drop at before
 
-pub write-start : (vs before : List ℕ) → WrittenSoFar vs before before 0 0
-write-start vs before = record { kept = refl; within = omega arith; front = refl; behind = refl }
+pub front-start : (whole before : List ℕ) → FrontSoFar whole whole before before 0
+front-start whole before = record { kept = refl; within = omega arith; front = refl; behind = refl }
 
-module _ {vs before buf : List ℕ} {at k : ℕ} (s : WrittenSoFar vs before buf at k) (l : k < length vs) where
-  v : ℕ
-  v = getD vs k 0
+-- what is left begins with a field
+pub record FieldNext (left : List ℕ) (v mark : ℕ) (rest : List ℕ) : Type 0 where
+  pub reads : left ≡ digitsOf v ++ (mark ∷ rest)
 
-  -- there is room for the next field of a line that the buffer has room for
-  pub write-room : length (fieldsLine vs) ≤ length before → at + length (digitsOf (getD vs k 0)) + 1 ≤ length buf
-  write-room fits =
+module _ {whole left before buf rest : List ℕ} {at v mark : ℕ} (s : FrontSoFar whole left before buf at)
+    (field : FieldNext left v mark rest) where
+  -- there is room for it where the buffer has room for the whole
+  pub front-room : length whole ≤ length before → at + length (digitsOf v) + 1 ≤ length buf
+  front-room fits =
       omega (
         arith,
         s .kept,
         length-take-le at buf (s .within),
-        simp length-append at (ap length (s .front ∙ ap (λ (bs : List ℕ). take at buf ++ bs) (left-fields vs k l))),
+        simp length-append at (ap length (s .front ∙ ap (λ (bs : List ℕ). take at buf ++ bs) (field .reads))),
       )
 
-  pub write-next : {after : List ℕ} {mark next : ℕ} → mark ≡ markBefore (length vs - k - 1) →
-      Written buf after at (getD vs k 0) mark next → length after ≡ length buf → WrittenSoFar vs before after next (k + 1)
-  unfolding v
-  write-next {after} {mark} {next} m w kept =
+  pub front-next : {after : List ℕ} {next : ℕ} → Written buf after at v mark next → length after ≡ length buf →
+      FrontSoFar whole rest before after next
+  front-next {after} {next} w kept =
       record {
         kept = kept ∙ s .kept;
         within = omega (arith, kept, ap length bytes, length-append front (drop next buf), size);
         front =
             s .front
-            ∙ ap (λ (bs : List ℕ). take at buf ++ bs)
-            (left-fields vs k l
-            ∙ ap (λ (j : ℕ). digitsOf v ++ (j ∷ fieldsLine (drop (k + 1) vs))) (sym m)
-            ∙ sym (append-assoc (digitsOf v) (mark ∷ []) (fieldsLine (drop (k + 1) vs))))
-            ∙ sym (append-assoc (take at buf) (digitsOf v ++ (mark ∷ [])) (fieldsLine (drop (k + 1) vs)))
-            ∙ ap (λ (bs : List ℕ). bs ++ fieldsLine (drop (k + 1) vs)) (sym (ap (take next) bytes ∙ take-at front _ next size));
+            ∙ ap (λ (bs : List ℕ). take at buf ++ bs) (field .reads ∙ sym (append-assoc (digitsOf v) (mark ∷ []) rest))
+            ∙ sym (append-assoc (take at buf) (digitsOf v ++ (mark ∷ [])) rest)
+            ∙ ap (λ (bs : List ℕ). bs ++ rest) (sym (ap (take next) bytes ∙ take-at front _ next size));
         behind = ap (drop next) bytes ∙ drop-at front _ next size ∙ later;
       }
     where
@@ -212,9 +210,10 @@ module _ {vs before buf : List ℕ} {at k : ℕ} (s : WrittenSoFar vs before buf
           ∙ drop-drop (length (digitsOf v) + 1) at before
           ∙ ap (λ (j : ℕ). drop j before) e
 
-pub write-end : {vs before buf : List ℕ} {at k : ℕ} → WrittenSoFar vs before buf at k → length vs ≤ k →
-    FrontWritten (fieldsLine vs) before buf at
-write-end {vs} {before} {buf} {at} {k} s l =
+-- nothing is left
+pub front-end : {whole left before buf : List ℕ} {at : ℕ} → FrontSoFar whole left before buf at → left ≡ [] →
+    FrontWritten whole before buf at
+front-end {whole} {left} {before} {buf} {at} s none =
     record {
       whole =
           sym (take-append-drop at buf)
@@ -222,12 +221,18 @@ write-end {vs} {before} {buf} {at} {k} s l =
       count = size;
     }
   where
-    front : take at buf ≡ fieldsLine vs
-    front =
-        sym
-        (s .front
-        ∙ ap (λ (ws : List ℕ). take at buf ++ fieldsLine ws) (drop-of-length-le vs l)
-        ∙ unfold fieldsLine in append-nil (take at buf))
+    front : take at buf ≡ whole
+    front = sym (s .front ∙ ap (λ (bs : List ℕ). take at buf ++ bs) none ∙ append-nil (take at buf))
 
-    size : at ≡ length (fieldsLine vs)
+    size : at ≡ length whole
     size = sym (length-take-le at buf (s .within)) ∙ ap length front
+
+-- of a line the k-th field is next, or nothing is left
+pub next-field : (vs : List ℕ) (k : ℕ) {mark : ℕ} → k < length vs → mark ≡ markBefore (length vs - k - 1) →
+    FieldNext (fieldsLine (drop k vs)) (getD vs k 0) mark (fieldsLine (drop (k + 1) vs))
+next-field vs k l m =
+    record { reads = left-fields vs k l ∙ ap (λ (j : ℕ). digitsOf (getD vs k 0) ++ (j ∷ fieldsLine (drop (k + 1) vs))) (sym m) }
+
+pub no-field-left : (vs : List ℕ) {k : ℕ} → length vs ≤ k → fieldsLine (drop k vs) ≡ []
+unfolding fieldsLine
+no-field-left vs l = ap fieldsLine (drop-of-length-le vs l)

@@ -1,2 +1,3 @@
 -- What the contracts of this crate cite, and what has to be believed of the program.
 pub mod Decision
+pub mod Output

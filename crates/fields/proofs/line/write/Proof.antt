@@ -1,19 +1,20 @@
--- `line::write` meets its contract: the loop's invariant is `WrittenSoFar`.
+-- `line::write` meets its contract: the loop's invariant is `FrontSoFar`.
 use Prim.Native.Nat.{_-_}
-use lib.ListN.{length}
-use Rattle.fields.proofs.Codec.{WrittenSoFar, write-start, write-room, write-next, write-end}
+use lib.ListN.{length, drop}
+use Rattle.fields.specs.Line.{fieldsLine}
+use Rattle.fields.proofs.Codec.{FrontSoFar, front-start, front-room, front-next, front-end, next-field, no-field-left}
 use borrow.Author.Needs.{needs}
 use Rattle.fields.proofs.line.write.Statement.{statement}
 use Rattle.fields.proofs.line.write.Tie as tie
 
 abbrev Inv-loop : tie.InvT-loop
-Inv-loop buf₀ numbers at₀ k₀ buf at k = WrittenSoFar numbers buf₀ buf at k
+Inv-loop buf₀ numbers at₀ k₀ buf at k = FrontSoFar (fieldsLine numbers) (fieldsLine (drop k numbers)) buf₀ buf at
 
 abbrev μ-loop : tie.MeasureT-loop
 μ-loop buf₀ numbers at₀ k₀ buf at k = length numbers - k
 
 loop-holds : tie.Need-loop-holds Inv-loop μ-loop
-loop-holds c = write-start _ _
+loop-holds c = front-start _ _
 
 sub-mark-before : tie.Need-sub-mark-before Inv-loop μ-loop
 sub-mark-before c = search needs
@@ -33,7 +34,7 @@ shared-slice-read-write-field c = search needs
 write-field-requires : tie.Need-write-field-requires Inv-loop μ-loop
 write-field-requires c κs =
     let l = c .before .before .before in
-    write-room (l .before .loop .inv) (l .loop-test .taken) (l .before .before .before .before .pre)
+    front-room (l .before .loop .inv) (next-field _ _ (l .loop-test .taken) (c .before .before .mark-before .ensures)) (l .before .before .before .before .pre)
 
 add-k : tie.Need-add-k Inv-loop μ-loop
 add-k c = search needs
@@ -45,14 +46,14 @@ loop-again : tie.Need-loop-again Inv-loop μ-loop
 loop-again c =
     let w = c .before .before in
     let m = w .before .before .before in
-    write-next (m .before .before .loop .inv) (m .before .loop-test .taken) (m .mark-before .ensures) (w .write-field .ensures)
-    (w .write-field .kept .0)
+    front-next (m .before .before .loop .inv) (next-field _ _ (m .before .loop-test .taken) (m .mark-before .ensures))
+    (w .write-field .ensures) (w .write-field .kept .0)
 
 same-length : tie.Need-same-length Inv-loop μ-loop
 same-length c = search needs
 
 returns : tie.Need-returns Inv-loop μ-loop
-returns c = write-end (c .before .loop .inv) (c .loop-test .left)
+returns c = front-end (c .before .loop .inv) (no-field-left _ (c .loop-test .left))
 
 pub write-spec : {M : Type 1} → statement M
 write-spec =

@@ -15,7 +15,9 @@ use Rattle.fields.specs.Codec.{FrontWritten}
 use Rattle.lines.specs.declared.Run.{Run}
 use Rattle.lines.specs.Run.{shows, runRefusal}
 use Rattle.lines.specs.Remake.{shownFrom, remadeCount, RemakePromise}
-use Rattle.runshow_io.specs.Output.{numbersLines, ChunkPromise}
+use Rattle.lines.proofs.Runs.{valid-run}
+use Rattle.runshow_io.specs.Output.{numbersLines, dueOf, ChunkPromise}
+use Rattle.runshow_io.specs.declared.output.Chunk.{Chunk}
 use Rattle.runshow_io.proofs.Writing.{numbers-short}
 
 -- What positions show.
@@ -94,3 +96,13 @@ chunk-fits m numbers below room =
         let in-front : i < m = omega (arith, length-take m numbers) in
         let same = getD-take m numbers i 0 in-front in
         omega (arith, same, below i (omega (arith, length-take m numbers)))
+
+-- A chunk is within what is left and within the run, so that the next position is a 64-bit number.
+pub chunk-left : {run : Run} {p left room : ℕ} {before after : List ℕ} {chunk : Chunk} → ChunkPromise run p left room before after chunk →
+    (chunk .made ≤ left) × ((chunk .made ≡ 0 → ⊥) → p + chunk .made < 2 ^ 64)
+chunk-left {run} {p} {left} {room} {chunk = chunk} c = go (runRefusal run) refl (c .count)
+  where
+    go : (n : ℕ) → runRefusal run ≡ n → chunk .made ≡ dueOf n run p left room →
+        (chunk .made ≤ left) × ((chunk .made ≡ 0 → ⊥) → p + chunk .made < 2 ^ 64)
+    go zero z e = (omega arith, λ some. omega (arith, valid-run run z .end))
+    go (suc n) z e = (omega arith, λ some. absurd (some e))

@@ -3,6 +3,10 @@ ghost use Prim.Native.Nat.{_*_, _≤_};
 ghost use lib.ListN.{length};
 ghost use Rattle.fields.specs.Codec.{FrontWritten};
 ghost use Rattle.runshow_io.specs.Output.{ChunkPromise, numbersLines};
+use crate::answer::Outcome;
+use archive_io::notice::Notice;
+use archive_io::notice::print;
+use archive_io::notice::write_notice;
 use fields::field::write_field;
 use generator::ValueAnswer;
 use lines::Run;
@@ -41,5 +45,47 @@ pub fn write_chunk(run: Run, position: u64, left: u64, numbers: &mut [u64], buf:
     Chunk {
         made,
         bytes: write_numbers(buf, &numbers[..made]),
+    }
+}
+
+// Prints what was decided.
+pub fn print_outcome(outcome: Outcome) {
+    match outcome {
+        Outcome::Part(run, first, many) => print_part(run, first, many),
+        Outcome::Told(notice) => print_notice(notice),
+    }
+}
+
+fn print_notice(notice: Notice) {
+    let mut buf = [0u8; 64];
+    let n = write_notice(&mut buf, notice);
+    print(&buf[..n], b"runshow: the answer could not be written\n");
+}
+
+// A field has at most 20 digits and byte 10, so 1,024 numbers fit 21,504 bytes.
+fn print_part(run: Run, first: u64, many: u64) {
+    let mut numbers = [0u64; 1024];
+    let mut buf = [0u8; 21504];
+    print_chunks(run, first, many, &mut numbers, &mut buf);
+}
+
+// Prints the numbers, a chunk at a time, up to the last one asked for or the run's end, or until they can't be written.
+fn print_chunks(run: Run, first: u64, many: u64, numbers: &mut [u64], buf: &mut [u8])
+    requires { ⌜ 21 * length (now numbers) ≤ length (now buf) ⌝ }
+{
+    let mut position = first;
+    let mut left = many;
+    while left > 0 {
+        let chunk = write_chunk(run, position, left, numbers, buf);
+        let made = chunk.made;
+        let n = chunk.bytes;
+        if made == 0 {
+            return;
+        }
+        if !print(&buf[..n], b"runshow: the numbers could not be written\n") {
+            return;
+        }
+        position += made as u64;
+        left -= made as u64;
     }
 }

@@ -1,83 +1,10 @@
 #!/usr/bin/env bash
-# Runs the program `runfind` on many questions and archives, each in a folder of its own, and
-# compares what it prints byte for byte. What it should print is written out here, or comes from
-# the reference beside this file. Its exit status doesn't matter, and standard error only where the answer can't be written;
-# but it must end.
+# Runs the program `runfind` on many questions and archives and compares what it prints. What it should print is written out
+# here, or comes from the reference beside this file.
 #
 #     runfind.sh PROGRAM
 
-set -u
-shopt -s lastpipe # the end of a pipe counts in this shell
-export LC_ALL=C PYTHONDONTWRITEBYTECODE=1
-
-if [ $# -ne 1 ] || [ ! -x "$1" ]; then
-    echo 'usage: runfind.sh PROGRAM' >&2
-    exit 2
-fi
-program=$(realpath "$1")
-reference=$(dirname "$(realpath "$0")")/reference
-work=$(mktemp -d) || exit 2
-trap 'rm -rf "$work"' EXIT
-chmod 755 "$work"
-folder=$work/folder
-limit=60 # seconds for one run
-compared=0
-failed=0
-
-# Building blocks. Texts go through printf's %b: \n is byte 10, \r byte 13, \0NNN any byte.
-
-# fresh: an empty folder for the next runs.
-fresh() {
-    rm -rf "$folder"
-    mkdir "$folder"
-}
-
-# archive TEXT: a fresh folder with this archive.
-archive() {
-    fresh
-    printf '%b' "$1" >"$folder/archive.csv"
-}
-
-# repeated COUNT LINE: the line so many times.
-repeated() {
-    yes "$2" | head -n "$1"
-}
-
-# shown LINE POSITION: the number at this position of the line's run, by the reference.
-shown() {
-    PYTHONPATH=$reference python3 -c '
-import sys, reference
-*generator, first, _ = map(int, sys.argv[1].split(","))
-print(reference.element(*generator, first + int(sys.argv[2]))[1])' "$1" "$2"
-}
-
-# report VERDICT TEXT
-report() {
-    compared=$((compared + 1))
-    [ "$1" = ok ] || failed=$((failed + 1))
-    printf '%-4s %s\n' "$1" "$2"
-}
-
-# prints NAME WANTED [COMMAND..]: the program, with COMMAND before it, reads this function's
-# standard input and prints WANTED and byte 10.
-prints() {
-    local name=$1 wanted=$2
-    shift 2
-    (cd "$folder" && exec timeout "$limit" "$@" "$program") >"$work/printed" 2>"$work/errors"
-    if [ $? -eq 124 ]; then
-        report FAIL "$name: did not end, so the rest is not tried"
-        exit 1
-    elif printf '%s\n' "$wanted" | cmp -s - "$work/printed"; then
-        report ok "$name: $wanted"
-    else
-        report FAIL "$name: wanted $wanted, got$(head -c 200 "$work/printed" | od -An -c | tr -s ' \n' ' ')"
-    fi
-}
-
-# answers NAME QUESTION WANTED: the same, with this text as standard input.
-answers() {
-    printf '%b' "$2" | prints "$1" "$3"
-}
+source "$(dirname "$(realpath "$0")")/program.sh"
 
 # agrees NAME NUMBER: asked for the number, the program prints what the reference does.
 agrees() {
@@ -89,15 +16,6 @@ agrees() {
 refused() {
     archive "4,5,3,1,0,16\n$3"
     answers "$1" '5\n' "refused,$2,2"
-}
-
-# pieces PART..: the parts with pauses between them.
-pieces() {
-    local part
-    for part; do
-        printf '%b' "$part"
-        sleep 0.1
-    done
 }
 
 # fed NAME WANTED PART..: asked for 49, where the archive is a named pipe that gets these pieces.
@@ -115,27 +33,12 @@ fed() {
 
 # The cases.
 
-example='4,5,3,1,0,16\n10,371,995,73,100,8\n'
-
 examples() {
     archive "$example"
     answers 'example' '5\n' 1,4
     answers 'example' '49\n' 2,0
     answers 'example' '985\n' none
 }
-
-digits() {
-    head -c 100000000 /dev/zero | tr '\0' 7
-}
-
-# Runs a program whose standard input is a pipe that is still open but has nothing to read.
-not_blocking='
-import os, sys
-out, into = os.pipe()
-os.set_blocking(out, False)
-os.dup2(out, 0)
-os.set_inheritable(into, True)
-os.execv(sys.argv[1], sys.argv[1:])'
 
 questions() {
     archive "$example"
@@ -172,43 +75,6 @@ questions() {
     digits | prints '100 MB of digits' question
     { digits; echo; } | prints '100 MB of digits and byte 10' question
     { echo 5; digits; } | prints '100 MB behind byte 10' question
-}
-
-question_first() {
-    fresh
-    answers 'bad question, missing archive' 'x\n' question
-    mkdir "$folder/archive.csv"
-    answers 'bad question, a folder as archive' 'x\n' question
-    archive 'spoiled'
-    answers 'bad question, refused archive' 'x\n' question
-}
-
-unread() {
-    fresh
-    answers 'missing archive' '5\n' unread
-    mkdir "$folder/archive.csv"
-    answers 'a folder as archive' '5\n' unread
-    fresh
-    ln -s nowhere "$folder/archive.csv"
-    answers 'a link to nothing as archive' '5\n' unread
-    no_permission
-}
-
-# Root may read everything, so the program is then run as nobody, from a copy that nobody reaches.
-no_permission() {
-    local as_user=() program=$program
-    if [ "$(id -u)" -eq 0 ]; then
-        as_user=(setpriv --reuid 65534 --regid 65534 --clear-groups)
-        install -m 755 "$program" "$work/runfind"
-        program=$work/runfind
-    fi
-    archive "$example"
-    chmod 000 "$folder/archive.csv"
-    if "${as_user[@]}" test -x "$program" && ! "${as_user[@]}" test -r "$folder/archive.csv"; then
-        echo 5 | prints 'archive without permission' unread "${as_user[@]}"
-    else
-        echo 'skip archive without permission: no user here may run the program but not read the file'
-    fi
 }
 
 # Lines that make 65,536 bytes; only the last one, 5041, shows 49.
@@ -380,21 +246,10 @@ in_pieces() {
     fed 'archive in pieces, 65537 bytes' refused,1,0 "${bytes:0:20000}" "${bytes:20000}" '\n' '\n'
 }
 
-# An answer that can't be written is told in one sentence on standard error.
-unwritten() {
-    archive "$example"
-    (cd "$folder" && echo 5 | "$program" >/dev/full 2>"$work/errors")
-    if [ "$(wc -l <"$work/errors")" -eq 1 ]; then
-        report ok "standard output is full: $(cat "$work/errors")"
-    else
-        report FAIL 'standard output is full: no sentence on standard error'
-    fi
-}
-
 examples
 questions
 question_first
-unread
+unread '5\n'
 overlong
 malformed
 spreadsheets
@@ -404,6 +259,5 @@ order
 searches
 even_multipliers
 in_pieces
-unwritten
-echo "runfind: $compared compared, $failed failed"
-[ "$failed" -eq 0 ]
+unwritten 'an answer' '5\n'
+done_with runfind

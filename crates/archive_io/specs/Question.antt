@@ -21,8 +21,11 @@ numbersAsked unreadable = []
 pub record QuestionPromise (stdin : Source) (n : ℕ) (numbers : List ℕ) (answer : Bool) : Type 0 where
   pub equals : answer ≡ isQuestion n stdin
   pub asked : answer ≡ true → numbers ≡ numbersAsked stdin
-  pub of-question : (vs : List ℕ) → length vs ≡ n → AllBelow (2 ^ 64) vs → stdin ≡ holds (fieldsLine vs) → (answer ≡ true) × (numbers ≡ vs)
-  pub of-others : ((vs : List ℕ) → length vs ≡ n → AllBelow (2 ^ 64) vs → stdin ≡ holds (fieldsLine vs) → ⊥) → answer ≡ false
+  pub of-question :
+      (vs : List ℕ) → length vs ≡ n → AllBelow (2 ^ 64) vs → stdin ≡ holds (fieldsLine vs) →
+      (answer ≡ true) × (numbers ≡ vs)
+  pub of-others :
+      ((vs : List ℕ) → length vs ≡ n → AllBelow (2 ^ 64) vs → stdin ≡ holds (fieldsLine vs) → ⊥) → answer ≡ false
 
 -- It is kept whatever follows what was read.
 pub record AskPromise (input : List ℕ) (rest : Rest) (n : ℕ) (numbers : List ℕ) (answer : Bool) : Type 0 where

@@ -38,14 +38,16 @@ refusal-is : (n v : ℕ) {reply : ValueReply} → reply ≡ valueReply n v → r
 refusal-is zero v e = ap (λ (r : ValueReply). r .refusal) e
 refusal-is (suc n) v e = ap (λ (r : ValueReply). r .refusal) e
 
-module _ {run : Run} {p : ℕ} {before numbers : List ℕ} {answer : ValueAnswer} (r : RemakePromise run p before numbers (valueOf answer)) where
+module _ {run : Run} {p : ℕ} {before numbers : List ℕ} {answer : ValueAnswer}
+    (r : RemakePromise run p before numbers (valueOf answer)) where
   -- a run that is refused
   pub chunk-none : {x : Refusal} → answer ≡ Refused x → (left : ℕ) (buf : List ℕ) →
       ChunkPromise run p left (length before) buf buf (record { made = 0; bytes = 0 })
   unfolding shownFrom numbersLines
   chunk-none {x} e left buf =
       let k = number-suc x in
-      let n : runRefusal run ≡ suc (k .0) = sym (refusal-is (runRefusal run) _ (r .equals)) ∙ ap (λ (a : ValueAnswer). valueOf a .refusal) e ∙ k .1 in
+      let n : runRefusal run ≡ suc (k .0) =
+      sym (refusal-is (runRefusal run) _ (r .equals)) ∙ ap (λ (a : ValueAnswer). valueOf a .refusal) e ∙ k .1 in
       record { count = rw n; written = record { whole = refl; count = refl } }
 
   module _ {n : ℕ} (e : answer ≡ Value n) where
@@ -98,7 +100,8 @@ chunk-fits m numbers below room =
         omega (arith, same, below i (omega (arith, length-take m numbers)))
 
 -- A chunk is within what is left and within the run, so that the next position is a 64-bit number.
-pub chunk-left : {run : Run} {p left room : ℕ} {before after : List ℕ} {chunk : Chunk} → ChunkPromise run p left room before after chunk →
+pub chunk-left : {run : Run} {p left room : ℕ} {before after : List ℕ} {chunk : Chunk} →
+    ChunkPromise run p left room before after chunk →
     (chunk .made ≤ left) × ((chunk .made ≡ 0 → ⊥) → p + chunk .made < 2 ^ 64)
 chunk-left {run} {p} {left} {room} {chunk = chunk} c = go (runRefusal run) refl (c .count)
   where

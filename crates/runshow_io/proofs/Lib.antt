@@ -1,4 +1,5 @@
--- `Answering` has what each way out of the answer shows, and `Deciding` what the question shows.
+-- `Answering` has what each way out of the answer shows, `Deciding` what the question shows, `Writing` and `Chunks` what each
+-- step of writing numbers shows.
 pub mod Answering
 pub mod Deciding
 pub mod Writing

@@ -26,7 +26,9 @@ same-length-2 : tie.Need-same-length-2
 same-length-2 c = search needs
 
 returns-2 : tie.Need-returns-2
-returns-2 c = ask-front (c .before .before .before .before .read .ensures) (c .enum-told2 .given .1) (c .before .before .before .before .before .before .before .before .pre)
+returns-2 c =
+    ask-front (c .before .before .before .before .read .ensures) (c .enum-told2 .given .1)
+    (c .before .before .before .before .before .before .before .before .pre)
 
 same-length-3 : tie.Need-same-length-3
 same-length-3 c = search needs

@@ -34,7 +34,8 @@ shared-slice-read-write-field c = search needs
 write-field-requires : tie.Need-write-field-requires Inv-loop μ-loop
 write-field-requires c κs =
     let l = c .before .before .before in
-    front-room (l .before .loop .inv) (next-field _ _ (l .loop-test .taken) (c .before .before .mark-before .ensures)) (l .before .before .before .before .pre)
+    front-room (l .before .loop .inv) (next-field _ _ (l .loop-test .taken) (c .before .before .mark-before .ensures))
+    (l .before .before .before .before .pre)
 
 add-k : tie.Need-add-k Inv-loop μ-loop
 add-k c = search needs

@@ -14,7 +14,9 @@ number-requires : tie.Need-number-requires
 number-requires c κs = search needs
 
 returns : tie.Need-returns
-returns c = answer-refused (c .before .before .before .before .checked .ensures) _ _ _ (c .before .before .verdict .given .1) (c .number .ensures)
+returns c =
+    answer-refused (c .before .before .before .before .checked .ensures) _ _ _ (c .before .before .verdict .given .1)
+    (c .number .ensures)
 
 enum-told : tie.Need-enum-told
 enum-told c = search needs
@@ -32,13 +34,19 @@ enum-told-2 : tie.Need-enum-told-2
 enum-told-2 c = search needs
 
 returns-2 : tie.Need-returns-2
-returns-2 c = let r = c .before .before in answer-none (r .before .before .before .before .checked .ensures) _ _ _ (r .before .before .enum-told .given .1) (r .before .line .ensures) (r .read-line .ensures) (c .enum-told2 .given .1)
+returns-2 c =
+    let r = c .before .before in
+    answer-none (r .before .before .before .before .checked .ensures) _ _ _ (r .before .before .enum-told .given .1)
+    (r .before .line .ensures) (r .read-line .ensures) (c .enum-told2 .given .1)
 
 part-requires : tie.Need-part-requires
 part-requires c κs = search needs
 
 returns-3 : tie.Need-returns-3
-returns-3 c = let r = c .before .before .before .before in answer-part (r .before .before .before .before .checked .ensures) _ _ _ (r .before .before .enum-told .given .1) (r .before .line .ensures) (r .read-line .ensures) (c .before .before .run .given .1) (c .part .ensures)
+returns-3 c =
+    let r = c .before .before .before .before in
+    answer-part (r .before .before .before .before .checked .ensures) _ _ _ (r .before .before .enum-told .given .1)
+    (r .before .line .ensures) (r .read-line .ensures) (c .before .before .run .given .1) (c .part .ensures)
 
 pub answer-spec : {M : Type 1} → statement M
 answer-spec =

@@ -7,10 +7,14 @@ returns : tie.Need-returns
 returns c = let a = c .before .before .args in part-behind (a .run) (a .first) (a .many) (c .if1 .taken)
 
 returns-2 : tie.Need-returns-2
-returns-2 c = let a = c .before .before .before .args in part-empty (a .run) (a .first) (a .many) (c .before .if1 .left) (c .if2 .taken)
+returns-2 c =
+    let a = c .before .before .before .args in
+    part-empty (a .run) (a .first) (a .many) (c .before .if1 .left) (c .if2 .taken)
 
 returns-3 : tie.Need-returns-3
-returns-3 c = let a = c .before .before .before .args in part-some (a .run) (a .first) (a .many) (c .before .if1 .left) (c .if2 .left)
+returns-3 c =
+    let a = c .before .before .before .args in
+    part-some (a .run) (a .first) (a .many) (c .before .if1 .left) (c .if2 .left)
 
 pub part-spec : {M : Type 1} → statement M
 part-spec = tie.close (tie.spec returns returns-2 returns-3)

@@ -35,13 +35,22 @@ enum-told-4 : tie.Need-enum-told-4
 enum-told-4 c = search needs
 
 returns-2 : tie.Need-returns-2
-returns-2 c = let k = c .before .before .before in decided-all (k .before .before .before .asked .ensures) (k .before .line .given .1) some (c .before .enum-told2 .given .1) (c .answer .ensures)
+returns-2 c =
+    let k = c .before .before .before in
+    decided-all (k .before .before .before .asked .ensures) (k .before .line .given .1) some (c .before .enum-told2 .given .1)
+    (c .answer .ensures)
 
 returns-3 : tie.Need-returns-3
-returns-3 c = let k = c .before .before .before in let a = k .before .before .before in decided-front (a .asked .ensures) (k .before .line .given .1) some (too-long _ _ _) (c .before .enum-told3 .given .1) (a .before .before .before .pre .1) (c .answer2 .ensures)
+returns-3 c =
+    let k = c .before .before .before in
+    let a = k .before .before .before in
+    decided-front (a .asked .ensures) (k .before .line .given .1) some (too-long _ _ _) (c .before .enum-told3 .given .1)
+    (a .before .before .before .pre .1) (c .answer2 .ensures)
 
 returns-4 : tie.Need-returns-4
-returns-4 c = let k = c .before .before in decided-unread (k .before .before .before .asked .ensures) (k .before .line .given .1) some (c .enum-told4 .given .1) refl
+returns-4 c =
+    let k = c .before .before in
+    decided-unread (k .before .before .before .asked .ensures) (k .before .line .given .1) some (c .enum-told4 .given .1) refl
 
 pub decide-spec : {M : Type 1} → statement M
 decide-spec =

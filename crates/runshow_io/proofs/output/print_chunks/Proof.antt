@@ -10,7 +10,8 @@ use Rattle.runshow_io.proofs.output.print_chunks.Statement.{statement}
 use Rattle.runshow_io.proofs.output.print_chunks.Tie as tie
 
 abbrev Inv-loop : tie.InvT-loop
-Inv-loop run first many numbers₀ buf₀ position₀ left₀ t11 numbers buf position left = (length numbers ≡ length numbers₀) × (length buf ≡ length buf₀)
+Inv-loop run first many numbers₀ buf₀ position₀ left₀ t11 numbers buf position left =
+    (length numbers ≡ length numbers₀) × (length buf ≡ length buf₀)
 
 abbrev μ-loop : tie.MeasureT-loop
 μ-loop run first many numbers₀ buf₀ position₀ left₀ t11 numbers buf position left = left
@@ -34,7 +35,9 @@ slice-reshare-prefix-print : tie.Need-slice-reshare-prefix-print Inv-loop μ-loo
 slice-reshare-prefix-print c = let e = c in within (e .before .before .before .before .before .write-chunk .ensures .written)
 
 slice-aggregate-print : tie.Need-slice-aggregate-print Inv-loop μ-loop
-slice-aggregate-print c = let e = c .before in counts _ _ (within (e .before .before .before .before .before .write-chunk .ensures .written)) .1
+slice-aggregate-print c =
+    let e = c .before in
+    counts _ _ (within (e .before .before .before .before .before .write-chunk .ensures .written)) .1
 
 slice-aggregate-print-2 : tie.Need-slice-aggregate-print-2 Inv-loop μ-loop
 slice-aggregate-print-2 c = search needs
@@ -52,10 +55,14 @@ returns-2 : tie.Need-returns-2 Inv-loop μ-loop
 returns-2 c = search needs
 
 add-position : tie.Need-add-position Inv-loop μ-loop
-add-position c = let e = c .before .before .before .before in omega (arith, chunk-left (e .before .before .before .before .before .write-chunk .ensures) .1 (e .if1 .left))
+add-position c =
+    let e = c .before .before .before .before in
+    omega (arith, chunk-left (e .before .before .before .before .before .write-chunk .ensures) .1 (e .if1 .left))
 
 sub-left : tie.Need-sub-left Inv-loop μ-loop
-sub-left c = let e = c .before .before .before .before in omega (arith, chunk-left (e .before .before .before .before .before .write-chunk .ensures) .0)
+sub-left c =
+    let e = c .before .before .before .before in
+    omega (arith, chunk-left (e .before .before .before .before .before .write-chunk .ensures) .0)
 
 loop-less : tie.Need-loop-less Inv-loop μ-loop
 loop-less c = search needs

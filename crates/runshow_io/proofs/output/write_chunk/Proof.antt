@@ -1,8 +1,7 @@
--- x
+-- `output::write_chunk` meets its contract: the numbers written are the first of those remade.
+use mathlib.Core.Path.{sym}
 use native.Mathlib.Omega.{arith}
 use lib.Seq.{length-take-le}
-use mathlib.Core.Path.{sym}
--- `output::write_chunk` meets its contract.
 use Rattle.runshow_io.proofs.Chunks.{chunk-none, made-within, chunk-made, chunk-fits}
 use borrow.Author.Needs.{needs}
 use Rattle.runshow_io.proofs.output.write_chunk.Statement.{statement}
@@ -27,13 +26,24 @@ fitting-requires : tie.Need-fitting-requires
 fitting-requires c κs = search needs
 
 slice-reshare-prefix-write-numbers : tie.Need-slice-reshare-prefix-write-numbers
-slice-reshare-prefix-write-numbers c = let f = c .before in made-within (f .before .before .before .before .before .before .remake .ensures) (f .before .before .n .given .1) _ (f .fitting .ensures)
+slice-reshare-prefix-write-numbers c =
+    let f = c .before in
+    made-within (f .before .before .before .before .before .before .remake .ensures) (f .before .before .n .given .1) _
+    (f .fitting .ensures)
 
 slice-aggregate-write-numbers : tie.Need-slice-aggregate-write-numbers
-slice-aggregate-write-numbers c = let f = c .before .before in sym (length-take-le _ _ (made-within (f .before .before .before .before .before .before .remake .ensures) (f .before .before .n .given .1) _ (f .fitting .ensures)))
+slice-aggregate-write-numbers c =
+    let f = c .before .before in
+    sym
+    (length-take-le _ _ (made-within (f .before .before .before .before .before .before .remake .ensures) (f .before .before .n .given .1) _ (f .fitting .ensures)))
 
 write-numbers-requires : tie.Need-write-numbers-requires
-write-numbers-requires c κs = let f = c .before .before in let r = f .before .before .before .before .before .before in chunk-fits (f .fitting .result) (r .remake .last .1 .1 .0) (λ i l. omega (arith, f .before .before .before .before .slice-known3 .given i)) (omega (arith, r .before .before .before .before .pre, r .remake .kept .1 .1 .0))
+write-numbers-requires c κs =
+    let f = c .before .before in
+    let r = f .before .before .before .before .before .before in
+    chunk-fits (f .fitting .result) (r .remake .last .1 .1 .0)
+    (λ i l. omega (arith, f .before .before .before .before .slice-known3 .given i))
+    (omega (arith, r .before .before .before .before .pre, r .remake .kept .1 .1 .0))
 
 same-length-2 : tie.Need-same-length-2
 same-length-2 c = search needs
@@ -42,7 +52,11 @@ same-length-3 : tie.Need-same-length-3
 same-length-3 c = search needs
 
 returns-2 : tie.Need-returns-2
-returns-2 c = let w = c .before .before in let f = w .before .before .before in chunk-made (f .before .before .before .before .before .before .remake .ensures) (f .before .before .n .given .1) (f .fitting .ensures) (w .write-numbers .ensures)
+returns-2 c =
+    let w = c .before .before in
+    let f = w .before .before .before in
+    chunk-made (f .before .before .before .before .before .before .remake .ensures) (f .before .before .n .given .1)
+    (f .fitting .ensures) (w .write-numbers .ensures)
 
 pub write-chunk-spec : {M : Type 1} → statement M
 write-chunk-spec =

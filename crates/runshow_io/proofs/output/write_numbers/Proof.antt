@@ -24,7 +24,9 @@ shared-slice-read-write-field : tie.Need-shared-slice-read-write-field Inv-loop 
 shared-slice-read-write-field c = search needs
 
 write-field-requires : tie.Need-write-field-requires Inv-loop μ-loop
-write-field-requires c κs = let l = c .before .before in front-room (l .before .loop .inv) (next-number _ _ (l .loop-test .taken)) (l .before .before .before .before .pre)
+write-field-requires c κs =
+    let l = c .before .before in
+    front-room (l .before .loop .inv) (next-number _ _ (l .loop-test .taken)) (l .before .before .before .before .pre)
 
 add-k : tie.Need-add-k Inv-loop μ-loop
 add-k c = search needs
@@ -33,7 +35,11 @@ loop-less : tie.Need-loop-less Inv-loop μ-loop
 loop-less c = search needs
 
 loop-again : tie.Need-loop-again Inv-loop μ-loop
-loop-again c = let w = c .before .before in let l = w .before .before .before in front-next (l .before .loop .inv) (next-number _ _ (l .loop-test .taken)) (w .write-field .ensures) (w .write-field .kept .0)
+loop-again c =
+    let w = c .before .before in
+    let l = w .before .before .before in
+    front-next (l .before .loop .inv) (next-number _ _ (l .loop-test .taken)) (w .write-field .ensures)
+    (w .write-field .kept .0)
 
 same-length : tie.Need-same-length Inv-loop μ-loop
 same-length c = search needs

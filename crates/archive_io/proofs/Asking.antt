@@ -1,31 +1,30 @@
 -- What reading the question shows: it is a line, so the laws of lines tell whether the bytes are one, and a line of n fields
 -- has at most 21 * n bytes.
-use mathlib.Core.Path.{_≡_, refl, sym, ap, _∙_}
+use mathlib.Core.Path.{_≡_, sym, ap, _∙_}
 use mathlib.Core.Bool.{Bool, true, false}
 use mathlib.Core.List.{List, [], _∷_, _++_}
-use Prim.Native.Nat.{ℕ, suc, _+_, _*_, _^_, _≤_, _<_}
+use Prim.Native.Nat.{ℕ, zero, suc, _+_, _*_, _≤_, _<_}
 use native.Mathlib.Omega.{arith}
-use lib.ListN.{length, length-append}
+use lib.ListN.{length, getD, length-append}
 use Rattle.fields.specs.Line.{AllBelow, fieldsLine, numbersFrom, isLine}
 use Rattle.fields.specs.Codec.{LineRead}
-use Rattle.fields.proofs.Digits.{digits-length}
+use Rattle.fields.proofs.Codec.{line-bound}
 use Rattle.fields.proofs.Numbers.{numbers-line, line-is, no-line}
 use Rattle.archive_io.specs.declared.input.Rest.{Rest}
 use Rattle.archive_io.specs.declared.input.Rest.the-variants.{Nothing, Unknown, Failed}
-use Rattle.archive_io.specs.Source.{Source, holds, unreadable, ReadOf}
+use Rattle.archive_io.specs.Source.{Source, holds, unreadable}
 use Rattle.archive_io.specs.Input.{Enough}
 use Rattle.archive_io.specs.Question.{isQuestion, numbersAsked, QuestionPromise, AskPromise}
 
--- a field has at most 20 digits
-line-short : (vs : List ℕ) → AllBelow (2 ^ 64) vs → length (fieldsLine vs) ≤ 21 * length vs
-unfolding fieldsLine
-line-short [] small = omega arith
-line-short (v ∷ vs) small =
-    simp length-append (omega (arith, digits-length v 19 (omega (arith, small .0)), line-short vs (small .1)))
+-- each of them is below the bound
+each-below : {m : ℕ} (vs : List ℕ) → AllBelow m vs → (i : ℕ) → i < length vs → getD vs i 0 < m
+each-below [] small i l = absurd (omega arith)
+each-below (v ∷ vs) small zero l = small .0
+each-below (v ∷ vs) small (suc i) l = each-below vs (small .1) i (omega arith)
 
 pub long-line : (n : ℕ) (bytes : List ℕ) → 21 * n < length bytes → isLine n bytes ≡ false
 long-line n bytes long =
-    no-line n (λ vs count small e. omega (arith, ap length e, line-short vs small, ap (λ (k : ℕ). 21 * k) count))
+    no-line n (λ vs count small e. omega (arith, ap length e, line-bound vs (each-below vs small), ap (λ (k : ℕ). 21 * k) count))
 
 -- An answer that equals the definition keeps the promise.
 promise : (stdin : Source) {n : ℕ} {numbers : List ℕ} {answer : Bool} → answer ≡ isQuestion n stdin →

@@ -1,6 +1,6 @@
 -- The question is the one field of standard input, and an archive that is too long is refused whatever is asked.
 use mathlib.Core.Path.{_≡_, sym, ap, _∙_}
-use mathlib.Core.Bool.{Bool, true, false, cond}
+use mathlib.Core.Bool.{Bool, true, false}
 use mathlib.Core.List.{List}
 use Prim.Native.Nat.{ℕ, _<_}
 use native.Mathlib.Omega.{arith}
@@ -9,10 +9,9 @@ use Rattle.archive.specs.declared.LookupReply.{LookupReply}
 use Rattle.archive.proofs.Demands.{lookup-long}
 use Rattle.archive_io.specs.declared.input.Rest.{Rest}
 use Rattle.archive_io.specs.declared.notice.Notice.the-variants.{Refused}
-use Rattle.archive_io.specs.Source.{Source, holds}
-use Rattle.archive_io.specs.Question.{numbersAsked, AskPromise}
+use Rattle.archive_io.specs.Source.{holds}
+use Rattle.archive_io.specs.Question.{AskPromise}
 use Rattle.archive_io.specs.Decision.{Asked}
-use Rattle.runfind_io.specs.declared.decision.Question.{Question}
 use Rattle.runfind_io.specs.declared.decision.Question.the-variants.{Number, Malformed}
 use Rattle.runfind_io.specs.declared.output.Outcome.the-variants.{Told}
 use Rattle.runfind_io.specs.Decision.{askedOf, outcomeOf, outcomeFor}

@@ -1,5 +1,5 @@
 -- What the program tells, for everything that standard input and the file may hold.
-use mathlib.Core.Bool.{true, false, cond}
+use mathlib.Core.Bool.{cond}
 use lib.Dec.{eqb}
 use lib.ListN.{getD}
 use Rattle.archive.specs.declared.LookupReply.{LookupReply}

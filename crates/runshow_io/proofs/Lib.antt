@@ -4,3 +4,4 @@ pub mod Answering
 pub mod Deciding
 pub mod Writing
 pub mod Chunks
+mod Examples

@@ -1,14 +1,13 @@
 -- What each step of writing numbers shows.
-use mathlib.Core.Path.{_≡_, refl, sym, ap, _∙_}
+use mathlib.Core.Path.{_≡_, ap, _∙_}
 use mathlib.Core.List.{List, [], _∷_, _++_, append-assoc}
-use Prim.Native.Nat.{ℕ, zero, suc, _+_, _*_, _^_, _≤_, _<_, suc-le-suc, min}
+use Prim.Native.Nat.{ℕ, suc, _+_, _*_, _^_, _≤_, _<_, suc-le-suc}
 use native.Mathlib.Numerals.{add-one}
 use native.Mathlib.Omega.{arith}
-use lib.ListN.{length, getD, take, drop, length-append, drop-of-length-le}
+use lib.ListN.{length, getD, drop, length-append, drop-of-length-le}
 use lib.Seq.{drop-cons}
 use Rattle.fields.specs.Digits.{digitsOf}
 use Rattle.fields.specs.Line.{fieldsLine}
-use Rattle.fields.specs.Codec.{FrontWritten}
 use Rattle.fields.proofs.Codec.{FieldNext}
 use Rattle.fields.proofs.Digits.{digits-length}
 use Rattle.runshow_io.specs.Output.{numbersLines}

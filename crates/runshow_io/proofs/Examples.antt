@@ -1,0 +1,63 @@
+-- What the program shows of document 01's archive for some questions, computed.
+use mathlib.Core.Path.{_≡_, refl}
+use mathlib.Core.List.{List, [], _∷_}
+use Prim.Native.Nat.{ℕ}
+use Rattle.generator.specs.Recurrence.{modulus, step, element}
+use Rattle.generator.specs.Refusals.{refusalOf}
+use Rattle.fields.specs.Ascii.{ascii}
+use Rattle.fields.specs.Digits.{lastDigits, digitsOf}
+use Rattle.fields.specs.Line.{fieldsLine, numbersFrom, isLine}
+use Rattle.lines.specs.Run.{shows, runRefusal}
+use Rattle.lines.specs.Line.{runAt}
+use Rattle.lines.specs.ReadLine.{readOf}
+use Rattle.lines.specs.Remake.{shownFrom}
+use Rattle.archive.specs.Archive.{linesOf, numbered}
+use Rattle.archive.specs.Check.{firstRefused, checkOf}
+use Rattle.archive.specs.Line.{lineAt}
+use Rattle.archive_io.specs.declared.notice.Notice.the-variants.{NotFound, Refused, BadQuestion, Unread}
+use Rattle.archive_io.specs.Source.{Source, holds, unreadable}
+use Rattle.runshow_io.specs.declared.answer.Outcome.{Outcome}
+use Rattle.runshow_io.specs.declared.answer.Outcome.the-variants.{Part, Told}
+use Rattle.runshow_io.specs.Decision.{askedOf, outcomeOf, outcomeFor}
+use Rattle.runshow_io.specs.Output.{numbersLines}
+
+abbrev second : List ℕ
+second = 10 ∷ 371 ∷ 995 ∷ 73 ∷ 100 ∷ 8 ∷ []
+
+abbrev two : Source
+two = holds (ascii "4,5,3,1,0,16\n10,371,995,73,100,8\n")
+
+-- a question, and what the file holds
+abbrev outcome : List ℕ → Source → Outcome
+outcome input file = outcomeFor (askedOf (holds input)) file
+
+outcomes :
+    outcome (ascii "2,0,8\n") two
+    ∷ outcome (ascii "2,7,18446744073709551615\n") two
+    ∷ outcome (ascii "2,8,1\n") two
+    ∷ outcome (ascii "2,0,0\n") two
+    ∷ outcome (ascii "3,0,1\n") two
+    ∷ outcome (ascii "0,0,1\n") two
+    ∷ outcome (ascii "1,0,1\n") (holds (ascii "4,5,3,1,0,16\n4,5,3"))
+    ∷ outcome (ascii "2,0,8\n") unreadable
+    ∷ outcome (ascii "2,0\n") unreadable
+    ∷ outcome (ascii "2,0,8,1\n") two
+    ∷ []
+    ≡ Part (runAt second) 0 8
+    ∷ Part (runAt second) 7 18446744073709551615
+    ∷ Told NotFound
+    ∷ Told NotFound
+    ∷ Told NotFound
+    ∷ Told NotFound
+    ∷ Told (Refused 2 2)
+    ∷ Told Unread
+    ∷ Told BadQuestion
+    ∷ Told BadQuestion
+    ∷ []
+unfolding outcomeOf lineAt numbered checkOf firstRefused linesOf readOf isLine numbersFrom fieldsLine digitsOf lastDigits
+    runRefusal refusalOf modulus
+outcomes = refl
+
+numbers : numbersLines (shownFrom (runAt second) 0 8) ≡ ascii "49\n742\n821\n434\n217\n606\n541\n1002\n"
+unfolding numbersLines shownFrom shows element step modulus fieldsLine digitsOf lastDigits
+numbers = refl

@@ -1,4 +1,4 @@
--- The line that a program prints where it has nothing to show.
+-- The line that a program prints where it has nothing to show (SCOPE 7.2).
 use mathlib.Core.List.{List, [], _∷_, _++_}
 use Prim.Native.Nat.{ℕ}
 use Rattle.fields.specs.Line.{fieldsLine}

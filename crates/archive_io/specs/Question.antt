@@ -1,4 +1,4 @@
--- A question is one line of n fields, and nothing else.
+-- A question is one line of n fields, and nothing else (SCOPE 7.1, 7.4).
 use mathlib.Core.Path.{_≡_}
 use mathlib.Core.Bool.{Bool, true, false}
 use mathlib.Core.List.{List, []}

@@ -1,4 +1,4 @@
--- Remaking a part of a run into a buffer of numbers.
+-- Remaking a part of a run into a buffer of numbers (SCOPE 4.7).
 use mathlib.Core.Path.{_≡_}
 use mathlib.Core.List.{List, [], _∷_, _++_}
 use Prim.Native.Nat.{ℕ, zero, suc, _-_, min}

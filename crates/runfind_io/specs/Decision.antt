@@ -1,4 +1,4 @@
--- What the program tells, for everything that standard input and the file may hold.
+-- What the program tells, for everything that standard input and the file may hold (SCOPE 7.1, 7.2).
 use mathlib.Core.Bool.{cond}
 use lib.Dec.{eqb}
 use lib.ListN.{getD}

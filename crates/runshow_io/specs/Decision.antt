@@ -1,4 +1,4 @@
--- What the program shows or tells, for everything that standard input and the file may hold.
+-- What the program shows or tells, for everything that standard input and the file may hold (SCOPE 7.4 on).
 use mathlib.Core.Bool.{cond}
 use mathlib.Core.List.{List}
 use Prim.Native.Nat.{ℕ, zero, suc}

@@ -55,6 +55,7 @@ pub struct Run {
 
 /// The run of a line's six numbers, in their order.
 impl From<[u64; 6]> for Run {
+    #[inline]
     fn from([width, multiplier, increment, seed, first, count]: [u64; 6]) -> Run {
         let generator = Generator { width, multiplier, increment, seed };
         Run { generator, first, count }
@@ -63,6 +64,7 @@ impl From<[u64; 6]> for Run {
 
 /// The six numbers of a run's line, in their order.
 impl From<Run> for [u64; 6] {
+    #[inline]
     fn from(run: Run) -> [u64; 6] {
         let Generator { width, multiplier, increment, seed } = run.generator;
         [width, multiplier, increment, seed, run.first, run.count]
@@ -79,6 +81,7 @@ pub struct Orbit {
 }
 
 impl Orbit {
+    #[inline]
     pub fn period(self) -> u128 {
         1 << self.exponent
     }
@@ -101,6 +104,7 @@ pub struct Location {
 }
 
 /// The value of a reply, or its refusal.
+#[inline]
 fn value(reply: raw::Value) -> Result<u64, Refusal> {
     Refusal::of(reply.refusal).map(|()| reply.value)
 }
@@ -115,6 +119,7 @@ fn value(reply: raw::Value) -> Result<u64, Refusal> {
 /// assert_eq!(element(Generator { width: 65, ..g }, 0), Err(Refusal::WidthOutOfRange));
 /// assert_eq!(element(Generator { seed: 1024, ..g }, 0), Err(Refusal::OperandOutOfRange));
 /// ```
+#[inline]
 pub fn element(g: Generator, index: u64) -> Result<u64, Refusal> {
     value(raw::element(g, index))
 }
@@ -129,6 +134,7 @@ pub fn element(g: Generator, index: u64) -> Result<u64, Refusal> {
 /// let counter = Generator { width: 64, multiplier: 1, increment: 1, seed: 0 };
 /// assert_eq!(orbit(counter).unwrap().period(), 1 << 64);
 /// ```
+#[inline]
 pub fn orbit(g: Generator) -> Result<Orbit, Refusal> {
     let raw::OrbitReply { refusal, preperiod, exponent } = raw::orbit(g);
     Refusal::of(refusal).map(|()| Orbit { preperiod, exponent })
@@ -143,6 +149,7 @@ pub fn orbit(g: Generator) -> Result<Orbit, Refusal> {
 /// assert_eq!(index(g, 6), Ok(Index::At(15)));
 /// assert_eq!(index(g, 16), Ok(Index::Never));
 /// ```
+#[inline]
 pub fn index(g: Generator, value: u64) -> Result<Index, Refusal> {
     let raw::IndexReply { refusal, found, index } = raw::index(g, value);
     Refusal::of(refusal).map(|()| if found == 0 { Index::Never } else { Index::At(index) })
@@ -158,6 +165,7 @@ pub fn index(g: Generator, value: u64) -> Result<Index, Refusal> {
 /// assert_eq!(predecessor(g, 16), Err(Refusal::ValueOutOfRange));
 /// assert_eq!(predecessor(Generator { multiplier: 6, ..g }, 8), Err(Refusal::NotInvertible));
 /// ```
+#[inline]
 pub fn predecessor(g: Generator, value: u64) -> Result<u64, Refusal> {
     self::value(raw::predecessor(g, value))
 }
@@ -170,6 +178,7 @@ pub fn predecessor(g: Generator, value: u64) -> Result<u64, Refusal> {
 /// assert_eq!(customary_multiplier(36), Ok(30_517_578_125));
 /// assert_eq!(customary_multiplier(2), Err(Refusal::WidthOutOfRange));
 /// ```
+#[inline]
 pub fn customary_multiplier(width: u64) -> Result<u64, Refusal> {
     value(raw::customary_multiplier(width))
 }
@@ -182,6 +191,7 @@ pub fn customary_multiplier(width: u64) -> Result<u64, Refusal> {
 /// assert_eq!(variety(Run::from([4, 5, 3, 1, 0, 20])), Ok(16));
 /// assert_eq!(variety(Run::from([4, 5, 3, 1, 0, 0])), Err(Refusal::RunOutOfRange));
 /// ```
+#[inline]
 pub fn variety(run: Run) -> Result<u64, Refusal> {
     value(raw::variety(run))
 }
@@ -199,6 +209,7 @@ pub fn variety(run: Run) -> Result<u64, Refusal> {
 /// assert_eq!(write_line(run, &mut buffer[..12]), Err(Refusal::BufferTooShort));
 /// # Ok::<(), Refusal>(())
 /// ```
+#[inline]
 pub fn write_line(run: Run, buffer: &mut [u8]) -> Result<usize, Refusal> {
     value(raw::write_line(run, buffer)).map(|length| length as usize)
 }
@@ -212,6 +223,7 @@ pub fn write_line(run: Run, buffer: &mut [u8]) -> Result<usize, Refusal> {
 /// assert_eq!(read_line(b"4,5,3,1,0,16\r\n"), Err(Refusal::MalformedLine));
 /// assert_eq!(read_line(b""), Err(Refusal::MalformedLine));
 /// ```
+#[inline]
 pub fn read_line(bytes: &[u8]) -> Result<Run, Refusal> {
     let raw::RunReply { refusal, run } = raw::read_line(bytes);
     Refusal::of(refusal).map(|()| run)
@@ -233,6 +245,7 @@ pub fn read_line(bytes: &[u8]) -> Result<Run, Refusal> {
 /// assert_eq!(remake(run, 8, &mut values), Ok(0));
 /// assert_eq!(remake(Run { count: 0, ..run }, 0, &mut values), Err(Refusal::RunOutOfRange));
 /// ```
+#[inline]
 pub fn remake(run: Run, position: u64, values: &mut [u64]) -> Result<usize, Refusal> {
     value(raw::remake(run, position, values)).map(|count| count as usize)
 }
@@ -247,6 +260,7 @@ pub fn remake(run: Run, position: u64, values: &mut [u64]) -> Result<usize, Refu
 /// assert_eq!(line(archive, 2), b"10,371,995,73,100,8\n");
 /// assert_eq!(line(archive, 3), b"");
 /// ```
+#[inline]
 pub fn line(archive: &[u8], line: u64) -> &[u8] {
     let raw::Part { start, length } = raw::line(archive, line);
     &archive[start as usize..][..length as usize]
@@ -264,6 +278,7 @@ pub fn line(archive: &[u8], line: u64) -> &[u8] {
 /// assert_eq!(refused, Refused { refusal: Refusal::RunOutOfRange, line: 2 });
 /// assert_eq!(refused.to_string(), "line 2: the count is 0, or first + count is above 2^64 - 1");
 /// ```
+#[inline]
 pub fn lookup(archive: &[u8], value: u64) -> Result<Option<Location>, Refused> {
     let raw::LookupReply { refusal, line, found, position } = raw::lookup(archive, value);
     match Refusal::of(refusal) {

@@ -72,46 +72,57 @@ mod foreign {
 
 // Safety of all calls below: numbers may be any, and each pointer comes with its slice's length.
 
+#[inline]
 pub fn element(g: Generator, index: u64) -> Value {
     unsafe { foreign::np_element(g, index) }
 }
 
+#[inline]
 pub fn orbit(g: Generator) -> OrbitReply {
     unsafe { foreign::np_orbit(g) }
 }
 
+#[inline]
 pub fn index(g: Generator, value: u64) -> IndexReply {
     unsafe { foreign::np_index(g, value) }
 }
 
+#[inline]
 pub fn predecessor(g: Generator, value: u64) -> Value {
     unsafe { foreign::np_predecessor(g, value) }
 }
 
+#[inline]
 pub fn customary_multiplier(width: u64) -> Value {
     unsafe { foreign::np_customary_multiplier(width) }
 }
 
+#[inline]
 pub fn variety(run: Run) -> Value {
     unsafe { foreign::np_variety(run) }
 }
 
+#[inline]
 pub fn write_line(run: Run, buffer: &mut [u8]) -> Value {
     unsafe { foreign::np_write_line(run, buffer.as_mut_ptr(), buffer.len()) }
 }
 
+#[inline]
 pub fn read_line(bytes: &[u8]) -> RunReply {
     unsafe { foreign::np_read_line(bytes.as_ptr(), bytes.len()) }
 }
 
+#[inline]
 pub fn remake(run: Run, position: u64, values: &mut [u64]) -> Value {
     unsafe { foreign::np_remake(run, position, values.as_mut_ptr(), values.len()) }
 }
 
+#[inline]
 pub fn line(archive: &[u8], line: u64) -> Part {
     unsafe { foreign::np_line(archive.as_ptr(), archive.len(), line) }
 }
 
+#[inline]
 pub fn lookup(archive: &[u8], value: u64) -> LookupReply {
     unsafe { foreign::np_lookup(archive.as_ptr(), archive.len(), value) }
 }

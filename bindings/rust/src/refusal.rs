@@ -34,11 +34,13 @@ impl Refusal {
     /// ```
     /// assert_eq!(noonpasture::Refusal::BufferTooShort.number(), 8);
     /// ```
+    #[inline]
     pub fn number(self) -> u64 {
         self as u64
     }
 
     /// Of a reply's first field: nothing if it is 0.
+    #[inline]
     pub(crate) fn of(number: u64) -> Result<(), Refusal> {
         match number {
             0 => Ok(()),

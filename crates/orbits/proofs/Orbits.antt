@@ -87,6 +87,16 @@ module _ {g : Generator} (lin : Linear g) where
       IsCycle g (record { preperiod = 0; last = last })
   odd-cycle o q = record { orbit = rw q (o .1); within = omega (arith, odd-room (o .0)) }
 
+-- with an odd multiplier without a preperiod
+pub odd-has-cycle : {g : Generator} → Linear g → g .multiplier % 2 ≡ 1 →
+    (last : ℕ) × IsCycle g (record { preperiod = 0; last = last })
+odd-has-cycle {g} lin p =
+    let e = exponent (element g) (g .width) in (
+      2 ^ e - 1,
+      odd-cycle lin (exponent-le (element g) (g .width), isometric-orbit (isometric lin p) (reduced lin))
+          (omega (arith, pow-pos e)),
+    )
+
 -- every accepted generator has an orbit, and what the definitions find below the modulus
 pub has-cycle : (g : Generator) → refusalOf g ≡ 0 → (cycle : Cycle) × IsCycle g cycle
 has-cycle g z = ⊎-elim even odd (mod-two (g .multiplier))
@@ -100,12 +110,7 @@ has-cycle g z = ⊎-elim even odd (mod-two (g .multiplier))
         (record { preperiod = r .0; last = 0 }, even-cycle lin (rest-orbit (contracting lin p) (reduced lin) (r .1)))
 
     odd : g .multiplier % 2 ≡ 1 → (cycle : Cycle) × IsCycle g cycle
-    odd p =
-        let e = exponent (element g) (g .width) in (
-          record { preperiod = 0; last = 2 ^ e - 1 },
-          odd-cycle lin (exponent-le (element g) (g .width), isometric-orbit (isometric lin p) (reduced lin))
-              (omega (arith, pow-pos e)),
-        )
+    odd p = let o = odd-has-cycle lin p in (record { preperiod = 0; last = o .0 }, o .1)
 
 module _ {g : Generator} {cycle : Cycle} (is : IsCycle g cycle) where
   pub cycle-room : cycle .preperiod + (cycle .last + 1) ≤ modulus g

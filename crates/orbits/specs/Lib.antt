@@ -1,5 +1,6 @@
--- What the contracts of this crate cite. All but `IsCycle` and `PositionIs` at the ends of `Orbit` and `Index`, which are for
--- the functions behind the calls, is what has to be believed of them.
+-- What the contracts of this crate cite. All but `IsCycle`, `PositionIs` and `SightingIs` at the ends of `Orbit`, `Index` and
+-- `Gap`, which are for the functions behind the calls, is what has to be believed of them.
 pub mod Orbit
 pub mod Index
+pub mod Gap
 pub mod WorkedRuns

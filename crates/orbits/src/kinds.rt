@@ -1,7 +1,9 @@
 // One door to the kinds of generator, for the crates above: a generator has to be accepted, and nothing else is asked of it.
 ghost use mathlib.Core.Path.{_≡_};
+ghost use Prim.Native.Nat.{_%_};
 ghost use Rattle.generator.specs.Recurrence.{modulus, element};
 ghost use Rattle.generator.specs.Refusals.{refusalOf};
+ghost use Rattle.orbits.specs.Gap.{SightingIs};
 ghost use Rattle.orbits.specs.Index.{PositionIs};
 ghost use Rattle.orbits.specs.Orbit.{IsCycle};
 use crate::linear;
@@ -19,6 +21,12 @@ pub struct Cycle {
     pub last: u64,
 }
 
+// Where a number stands on an orbit without a preperiod: its index, with the period less 1.
+pub enum Sighting {
+    At { index: u64, last: u64 },
+    Never,
+}
+
 // The least index that yields y, if one does.
 pub fn position_of(g: Generator, y: u64) -> Position
     requires { ⌜ refusalOf g ≡ 0 ⌝ }
@@ -33,4 +41,12 @@ pub fn cycle_of(g: Generator) -> Cycle
     ensures { λ r. ⌜ IsCycle g r ⌝ }
 {
     linear::cycle(g)
+}
+
+// The least index that yields y, if one does, and the period that is known once it is found, for an odd multiplier.
+pub fn sighting_of(g: Generator, y: u64) -> Sighting
+    requires { ⌜ (refusalOf g ≡ 0) × (g .multiplier % 2 ≡ 1) ⌝ }
+    ensures { λ r. ⌜ SightingIs g y r ⌝ }
+{
+    linear::sighting(g, y)
 }

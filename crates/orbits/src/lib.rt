@@ -1,16 +1,22 @@
-// The orbit of a generator and the least index of a number, for every generator, without stepping.
+// The orbit of a generator, the least index of a number and the steps between two numbers, for every generator, without
+// stepping.
+ghost use mathlib.Core.Path.{_≡_};
+ghost use Rattle.generator.specs.Refusals.{checkNumber};
 ghost use Rattle.orbits.specs.Orbit.{OrbitPromise, orbitOf};
 ghost use Rattle.orbits.specs.Index.{IndexPromise, replyOf};
+ghost use Rattle.orbits.specs.Gap.{GapPromise, gapRefusal, gapOf};
 use generator::Check;
 use generator::Generator;
 use generator::Refusal;
 use generator::checked;
 use kinds::Position;
+use kinds::Sighting;
 
 pub mod kinds;
 pub mod linear;
 pub mod plain;
 pub mod search;
+pub mod turns;
 
 pub enum OrbitAnswer {
     Orbit { preperiod: u64, exponent: u64 },
@@ -19,6 +25,12 @@ pub enum OrbitAnswer {
 
 pub enum IndexAnswer {
     At(u64),
+    Never,
+    Refused(Refusal),
+}
+
+pub enum GapAnswer {
+    Steps(i64),
     Never,
     Refused(Refusal),
 }
@@ -37,6 +49,14 @@ pub struct IndexReply {
     pub refusal: u64,
     pub found: u64,
     pub index: u64,
+}
+
+// found is 0 for never.
+#[repr(C)]
+pub struct GapReply {
+    pub refusal: u64,
+    pub found: u64,
+    pub steps: i64,
 }
 
 // The preperiod and the period of a generator.
@@ -72,4 +92,38 @@ pub fn index(g: Generator, value: u64) -> IndexAnswer
         Position::At(k) => IndexAnswer::At(k),
         Position::Never => IndexAnswer::Never,
     }
+}
+
+// The conditions of the gap call.
+fn gap_checked(g: Generator) -> Check
+    ensures { λ r. ⌜ checkNumber r ≡ gapRefusal g ⌝ }
+{
+    let verdict = checked(g);
+    if let Check::Refused(_) = verdict {
+        return verdict;
+    }
+    if g.multiplier % 2 == 0 {
+        return Check::Refused(Refusal::NotInvertible);
+    }
+    Check::Accepted
+}
+
+// The steps from one number to another, back where they are negative, or never.
+pub fn gap(g: Generator, from: u64, to: u64) -> GapAnswer
+    ensures { λ r. ⌜ GapPromise g from to (gapOf r) ⌝ }
+{
+    let verdict = gap_checked(g);
+    if let Check::Refused(refusal) = verdict {
+        return GapAnswer::Refused(refusal);
+    }
+    let first = kinds::sighting_of(g, from);
+    let Sighting::At { index: i, last } = first else {
+        return GapAnswer::Never;
+    };
+    let second = kinds::sighting_of(g, to);
+    let Sighting::At { index: j, last: _ } = second else {
+        return GapAnswer::Never;
+    };
+    let d = turns::ahead(i, j, last);
+    GapAnswer::Steps(turns::signed(d, last))
 }

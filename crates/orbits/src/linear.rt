@@ -5,10 +5,12 @@ ghost use Prim.Native.Nat.{_%_, _^_, _≤_, _<_};
 ghost use Rattle.sequences.specs.Orbit.{IsOrbit};
 ghost use Rattle.generator.specs.Recurrence.{modulus, element};
 ghost use Rattle.generator.specs.Affine.{Linear};
+ghost use Rattle.orbits.specs.Gap.{SightingIs};
 ghost use Rattle.orbits.specs.Index.{PositionIs};
 ghost use Rattle.orbits.specs.Orbit.{IsCycle};
 use crate::kinds::Cycle;
 use crate::kinds::Position;
+use crate::kinds::Sighting;
 use crate::search::settle;
 use generator::Generator;
 use generator::linear::next;
@@ -104,4 +106,25 @@ pub fn position(g: Generator, y: u64) -> Position
         return by_steps(g, y);
     }
     by_places(g, y)
+}
+
+// For an odd multiplier: where y stands, and the period less 1. Once all n places are settled the exponent is that of the
+// period, whatever the number sought.
+pub fn sighting(g: Generator, y: u64) -> Sighting
+    requires { ⌜ (Linear g) × (g .multiplier % 2 ≡ 1) ⌝ }
+    ensures { λ r. ⌜ SightingIs g y r ⌝ }
+{
+    let n = g.width;
+    if exceeds(y, n) {
+        return Sighting::Never;
+    }
+    let settled = settle(g, y, n);
+    let places = settled.places;
+    if places < n {
+        return Sighting::Never;
+    }
+    Sighting::At {
+        index: settled.index,
+        last: ones(settled.exponent),
+    }
 }

@@ -2,6 +2,9 @@
 ghost use mathlib.Core.Path.{_≡_};
 ghost use Rattle.orbits.specs.Orbit.{orbitOf};
 ghost use Rattle.orbits.specs.Index.{replyOf};
+ghost use Rattle.orbits.specs.Gap.{gapOf};
+use crate::GapAnswer;
+use crate::GapReply;
 use crate::IndexAnswer;
 use crate::IndexReply;
 use crate::OrbitAnswer;
@@ -46,6 +49,28 @@ pub fn of_index(answer: IndexAnswer) -> IndexReply
             refusal: number(refusal),
             found: 0,
             index: 0,
+        },
+    }
+}
+
+pub fn of_gap(answer: GapAnswer) -> GapReply
+    ensures { λ r. ⌜ r ≡ gapOf answer ⌝ }
+{
+    match answer {
+        GapAnswer::Steps(steps) => GapReply {
+            refusal: 0,
+            found: 1,
+            steps,
+        },
+        GapAnswer::Never => GapReply {
+            refusal: 0,
+            found: 0,
+            steps: 0,
+        },
+        GapAnswer::Refused(refusal) => GapReply {
+            refusal: number(refusal),
+            found: 0,
+            steps: 0,
         },
     }
 }

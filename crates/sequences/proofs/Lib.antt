@@ -2,6 +2,7 @@
 pub mod Least
 pub mod Orbits
 pub mod Indices
+pub mod Gaps
 pub mod Agreement
 pub mod Isometric
 pub mod Strides

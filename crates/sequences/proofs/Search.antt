@@ -7,7 +7,7 @@ use mathlib.Core.Path.{_≡_, refl, sym, ap, subst, _∙_}
 use mathlib.Core.Bool.{Bool, true, false, not, true≢false}
 use mathlib.Core.Logic.{_↔_}
 use Prim.Native.Nat.{ℕ, suc, _+_, _*_, _%_, _^_, _≤_, _<_}
-use native.Mathlib.Nat.{le-of-lt, le-trans, le-antisymm, lt-of-lt-of-le, lt-of-not-le, mod-eq-of-lt}
+use native.Mathlib.Nat.{add-zero, le-refl, le-of-lt, le-trans, le-antisymm, lt-of-lt-of-le, lt-of-not-le, mod-eq-of-lt}
 use native.Mathlib.Decide.{decLe}
 use native.Mathlib.Numerals.{add-one}
 use native.Mathlib.Omega.{arith}
@@ -16,7 +16,7 @@ use lib.Pow.{pow-pos, pow-lt, pow-mono}
 use borrow.Author.Tests.{eqb-true, eqb-false}
 use Rattle.words.specs.Alpha.{Alpha}
 use Rattle.words.specs.Masks.{Meets, Widens}
-use Rattle.words.proofs.Congruence.{Congruent, same-refl, same-sym, same-trans, same-result, same-lower}
+use Rattle.words.proofs.Congruence.{Congruent, same-refl, same-of-eq, same-regroup, same-add, same-add-cancel, same-result, same-lower}
 use Rattle.words.proofs.Places.{alpha-below, alpha-above, above-agree, above-zero}
 use Rattle.sequences.specs.Index.{Located, Absent}
 use Rattle.sequences.specs.Orbit.{IsOrbit}
@@ -38,6 +38,7 @@ use Rattle.sequences.proofs.Agreement.{
 use Rattle.sequences.proofs.Isometric.{
   Isometric,
   Periodic,
+  shift,
   exponent,
   exponent-le,
   exponent-stays,
@@ -300,20 +301,26 @@ module _ {n : ℕ} {x : ℕ → ℕ} {y p k e : ℕ} (s : Settles x y n p k e) w
           first = λ i q. agree-least (record { places = exactly i .0 (agree-of-eq n q) }) (s .below);
         }
 
--- the orbit, where the first element itself was sought: all places are settled, and x is back at it exactly at the multiples
--- of 2 ^ e
-pub settles-orbit : {n : ℕ} {x : ℕ → ℕ} → Reduced n x → {y p k e : ℕ} → x 0 ≡ y → Settles x y n p k e →
-    (e ≤ n) × IsOrbit x 0 (2 ^ e)
-settles-orbit {n} {x} red {y} {p} {k} {e} first s = (
-  le-trans (s .exponent-within) (s .within),
-  return-orbit (pow-pos e) λ i. (
-    λ q. same-trans (exactly s all i .0 (agree-of-eq n (q ∙ first))) (same-sym start),
-    λ c. reduced-eq red i 0 (agree-trans (exactly s all i .1 (same-trans c start)) (agree-of-eq n (sym first))),
-  ),
-)
-  where
-    all : n ≤ p
-    all = elim (decLe n p) [ yes l ↦ l | no f ↦ absurd (settles-never s (lt-of-not-le f) .none 0 first) ]
+    -- the orbit, whatever number was sought: x is back at x 0 after i steps exactly when it is back at x k, and so at y
+    pub settles-orbit : Isometric n x → Reduced n x → (e ≤ n) × IsOrbit x 0 (2 ^ e)
+    settles-orbit iso red = (
+      le-trans (s .exponent-within) (s .within),
+      return-orbit (pow-pos e) λ i. (
+        λ q.
+            same-add-cancel {a = i} {b = 0}
+            (same-regroup (exactly (k + i) .0 (agree-trans (shift iso n k i 0 (le-refl n) .0 (agree-of-eq n q)) back)) (omega arith) (omega arith))
+            (same-refl (2 ^ e) k),
+        λ c.
+            reduced-eq red i 0
+            (shift iso n k i 0 (le-refl n) .1
+            (agree-trans (exactly (k + i) .1 (same-regroup (same-add c (same-refl (2 ^ e) k)) (omega arith) (omega arith))) (agree-sym back))),
+      ),
+    )
+      where
+        back : Agree n (x (k + 0)) y
+        back = exactly (k + 0) .1 (same-of-eq (2 ^ e) (add-zero k))
 
-    start : Congruent (2 ^ e) 0 k
-    start = exactly s all 0 .0 (agree-of-eq n first)
+-- all places are settled where the first element itself was sought
+pub settles-first : {n : ℕ} {x : ℕ → ℕ} {y p k e : ℕ} → x 0 ≡ y → Settles x y n p k e → n ≤ p
+settles-first {n} {p = p} first s =
+    elim (decLe n p) [ yes l ↦ l | no f ↦ absurd (settles-never s (lt-of-not-le f) .none 0 first) ]

@@ -1,6 +1,8 @@
 -- What the definitions of the crates above mean, for any sequence of numbers. All but `Places` is what has to be believed of
--- the calls; `Places`, and `Located` and `Absent` at the end of `Index`, are for the functions behind them.
+-- the calls; `Places`, and `Located`, `Absent` and `Ahead` at the ends of `Index` and `Gap`, are for the functions
+-- behind them.
 pub mod Least
 pub mod Orbit
 pub mod Index
+pub mod Gap
 pub mod Places

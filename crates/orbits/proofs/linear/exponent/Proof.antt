@@ -1,7 +1,7 @@
 -- `orbits::linear::exponent` meets its contract: the orbit is read off the search for the seed.
 use borrow.Author.Needs.{needs}
 use native.Mathlib.Nat.{le-refl}
-use Rattle.sequences.proofs.Search.{settles-orbit}
+use Rattle.sequences.proofs.Search.{settles-orbit, settles-first}
 use Rattle.generator.proofs.Elements.{element-start}
 use Rattle.orbits.proofs.Elements.{reduced, isometric}
 use Rattle.orbits.proofs.linear.exponent.Statement.{statement}
@@ -12,7 +12,9 @@ settle-requires c κs = (c .pre .0, isometric (c .pre .0) (c .pre .1), le-refl _
 
 returns : tie.Need-returns
 returns c =
-    settles-orbit (reduced (c .before .pre .0)) (element-start (c .before .args .g)) (c .settle .ensures)
+    let pre = c .before .pre in
+    let all = settles-first (element-start (c .before .args .g)) (c .settle .ensures) in
+    settles-orbit (c .settle .ensures) all (isometric (pre .0) (pre .1)) (reduced (pre .0))
 
 pub exponent-spec : {M : Type 1} → statement M
 exponent-spec = tie.close (tie.spec settle-requires returns)

@@ -1,0 +1,60 @@
+-- The signed count of d steps ahead round a period of last + 1, in a 64-bit machine. The way taken is the shorter one, so that
+-- it is below 2 ^ 63; back it is one step more than the number that is taken from −1.
+use mathlib.Core.Path.{_≡_, refl, sym, ap, _∙_}
+use mathlib.Core.Logic.{by-cases}
+use Prim.Native.Nat.{ℕ, zero, suc, _+_, _-_, _*_, _^_, _≤_, _<_}
+use native.Mathlib.Decide.{decLe}
+use native.Mathlib.Omega.{arith}
+use lib.IntN.{pos, negsuc, _-ℤ_}
+use mir.Syntax.{w64}
+use mir.Val.{SFits, toZ}
+use mir.ValLaws.{toZ-ofZ}
+use Rattle.sequences.specs.Gap.{signedOf}
+use Rattle.sequences.proofs.Gaps.{signed-ahead, signed-back}
+
+-- a number below 2 ^ 63 is the same with a sign
+plain : {n : ℕ} → n < 2 ^ 63 → toZ w64 n ≡ pos n
+plain {n} h = toZ-ofZ w64 (pos n) (record { sfits = h })
+
+-- −1 − n
+below-zero : (n : ℕ) → negsuc 0 -ℤ pos n ≡ negsuc n
+below-zero zero = refl
+below-zero (suc n) = ap negsuc (let e : suc (0 + n) ≡ suc n = omega arith in e)
+
+module _ {d last : ℕ} (l : d ≤ last) (word : last < 2 ^ 64) where
+  -- straight on
+  module _ (h : d ≤ last - d) where
+    ahead-low : d < 2 ^ 63
+    ahead-low = omega arith
+
+    ahead-is : signedOf (last + 1) d ≡ pos d
+    ahead-is = let half : 2 * d < last + 1 = omega arith in signed-ahead half
+
+    pub straight : toZ w64 d ≡ signedOf (last + 1) d
+    straight = plain ahead-low ∙ sym ahead-is
+
+  -- back round the period
+  module _ (h : last - d < d) where
+    back-low : last - d < 2 ^ 63
+    back-low = omega arith
+
+    back-is : signedOf (last + 1) d ≡ negsuc (last - d)
+    back-is =
+        let below : d < last + 1 = omega arith in
+        let half : last + 1 ≤ 2 * d = omega arith in
+        let e : last + 1 - suc d ≡ last - d = omega arith in signed-back below half ∙ ap negsuc e
+
+    taken : negsuc 0 -ℤ toZ w64 (last - d) ≡ negsuc (last - d)
+    taken = rw (plain back-low) (below-zero (last - d))
+
+    pub back-fits : SFits w64 (negsuc 0 -ℤ toZ w64 (last - d))
+    back-fits = rw taken (record { sfits = back-low })
+
+    pub back : negsuc 0 -ℤ toZ w64 (last - d) ≡ signedOf (last + 1) d
+    back = taken ∙ sym back-is
+
+  -- either way it is a number of 64 bits with a sign
+  pub signed-fits : SFits w64 (signedOf (last + 1) d)
+  signed-fits =
+      by-cases (decLe d (last - d)) (λ h. rw (ahead-is h) (record { sfits = ahead-low h }))
+      (λ h. let b : last - d < d = omega arith in rw (back-is b) (record { sfits = back-low b }))

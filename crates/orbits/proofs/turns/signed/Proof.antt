@@ -1,0 +1,32 @@
+-- `orbits::turns::signed` meets its contract.
+use borrow.Author.Needs.{needs}
+use mathlib.Core.Path.{_∙_}
+use mir.Syntax.{w64}
+use mir.ValLaws.{toZ-ofZ}
+use Rattle.orbits.proofs.SignedCounts.{straight, back, back-fits}
+use Rattle.orbits.proofs.turns.signed.Statement.{statement}
+use Rattle.orbits.proofs.turns.signed.Tie as tie
+
+sub-back : tie.Need-sub-back
+sub-back c = search needs
+
+cast-result : tie.Need-cast-result
+cast-result c = search needs
+
+returns : tie.Need-returns
+returns c = let s = c .before in straight (s .pre) (s .fits .last .fits) (c .if1 .taken)
+
+cast-result-2 : tie.Need-cast-result-2
+cast-result-2 c = search needs
+
+sub-result : tie.Need-sub-result
+sub-result c = let s = c .before in back-fits (s .pre) (s .fits .last .fits) (c .if1 .left)
+
+returns-2 : tie.Need-returns-2
+returns-2 c =
+    let s = c .before in
+    let l = s .fits .last .fits in
+    toZ-ofZ w64 _ (back-fits (s .pre) l (c .if1 .left)) ∙ back (s .pre) l (c .if1 .left)
+
+pub signed-spec : {M : Type 1} → statement M
+signed-spec = tie.close (tie.spec sub-back cast-result returns cast-result-2 sub-result returns-2)

@@ -1,0 +1,53 @@
+-- The signed number of steps between two numbers of a generator (document 02, note 1; SCOPE 3.7).
+use mathlib.Core.Path.{_≡_}
+use mathlib.Core.Bool.{Bool, cond, _&&_}
+use Prim.Native.Nat.{ℕ, zero, suc, _+_, _%_}
+use lib.Dec.{eqb}
+use lib.IntN.{ℤ, pos}
+use Rattle.sequences.specs.Index.{Located, Absent}
+use Rattle.sequences.specs.Orbit.{periodOf}
+use Rattle.sequences.specs.Gap.{occurs, stepsOf, Between}
+use Rattle.generator.specs.declared.Generator.{Generator}
+use Rattle.generator.specs.Recurrence.{modulus, step, element}
+use Rattle.generator.specs.Refusals.{numberOf, orElse, refusalOf}
+use Rattle.orbits.specs.declared.GapAnswer.{GapAnswer}
+use Rattle.orbits.specs.declared.GapAnswer.the-variants as answer
+use Rattle.orbits.specs.declared.GapReply.{GapReply}
+use Rattle.orbits.specs.declared.kinds.Sighting.{Sighting}
+use Rattle.orbits.specs.declared.kinds.Sighting.the-variants as sighting
+use Rattle.orbits.specs.Orbit.{IsCycle}
+
+-- After 3 and 4, 7: the multiplier is even.
+unfoldable pub gapRefusal : Generator → ℕ
+gapRefusal g = orElse (refusalOf g) (cond (eqb (g .multiplier % 2) 0) 7 0)
+
+-- The period that the definition of the orbit finds.
+unfoldable pub period : Generator → ℕ
+period g = periodOf (element g) (modulus g)
+
+-- The reply for a refusal's number, 0 for none, whether both numbers occur, and a count of steps: found is 1 for a count, 0 for
+-- never; zeros stand beside never and beside a refusal.
+abbrev pub gapReply : ℕ → Bool → ℤ → GapReply
+gapReply zero both d =
+    cond both (record { refusal = 0; found = 1; steps = d }) (record { refusal = 0; found = 0; steps = pos 0 })
+gapReply (suc n) both d = record { refusal = suc n; found = 0; steps = pos 0 }
+
+-- What an answer says.
+abbrev pub gapOf : GapAnswer → GapReply
+gapOf (answer.Steps d) = record { refusal = 0; found = 1; steps = d }
+gapOf answer.Never = record { refusal = 0; found = 0; steps = pos 0 }
+gapOf (answer.Refused r) = record { refusal = numberOf r; found = 0; steps = pos 0 }
+
+-- The promise of the call: the reply is the definition's, and an accepted one means what note 1 asks for.
+pub record GapPromise (g : Generator) (from to : ℕ) (reply : GapReply) : Type 0 where
+  pub equals :
+      reply ≡
+      gapReply (gapRefusal g) (occurs (element g) (period g) from && occurs (element g) (period g) to)
+      (stepsOf (element g) (period g) from to)
+  pub meaning : reply .refusal ≡ 0 → Between (step g) (element g) (period g) from to (reply .found) (reply .steps)
+
+-- For the functions behind the call: where y stands on an orbit without a preperiod, and the period less 1.
+abbrev pub SightingIs : Generator → ℕ → Sighting → Type 0
+SightingIs g y (sighting.At k last) =
+    (Located (element g) y (last + 1) k) × (IsCycle g (record { preperiod = 0; last = last }))
+SightingIs g y sighting.Never = Absent (element g) y

@@ -8,6 +8,7 @@ ghost use Rattle.generator.specs.Predecessor.{PredecessorPromise};
 ghost use Rattle.generator.specs.Customary.{CustomaryPromise};
 ghost use Rattle.orbits.specs.Orbit.{OrbitPromise};
 ghost use Rattle.orbits.specs.Index.{IndexPromise};
+ghost use Rattle.orbits.specs.Gap.{GapPromise};
 ghost use Rattle.lines.specs.ReadLine.{ReadPromise};
 ghost use Rattle.lines.specs.WriteLine.{WritePromise};
 ghost use Rattle.lines.specs.Variety.{VarietyPromise};
@@ -23,8 +24,10 @@ use generator::plain::of_value;
 use lines::Run;
 use lines::RunReply;
 use lines::plain::of_run;
+use orbits::GapReply;
 use orbits::IndexReply;
 use orbits::OrbitReply;
+use orbits::plain::of_gap;
 use orbits::plain::of_index;
 use orbits::plain::of_orbit;
 
@@ -50,6 +53,14 @@ pub extern "C" fn np_index(g: Generator, value: u64) -> IndexReply
     ensures { λ r. ⌜ IndexPromise g value r ⌝ }
 {
     of_index(orbits::index(g, value))
+}
+
+// The steps from one number to another, back where they are negative, or never.
+#[no_mangle]
+pub extern "C" fn np_gap(g: Generator, from: u64, to: u64) -> GapReply
+    ensures { λ r. ⌜ GapPromise g from to r ⌝ }
+{
+    of_gap(orbits::gap(g, from, to))
 }
 
 // The only number that one step takes to this one.

@@ -1,5 +1,7 @@
 // The calls, each on its numbers.
+ghost use mathlib.Core.Path.{_≡_};
 ghost use Prim.Native.Nat.{_≤_};
+ghost use lib.IntN.{natAbs};
 ghost use lib.ListN.{length};
 use crate::archives;
 use crate::numbers::Bytes;
@@ -10,6 +12,7 @@ use generator::ValueAnswer;
 use generator::plain::of_value;
 use lines::Run;
 use lines::plain::of_run;
+use orbits::plain::of_gap;
 use orbits::plain::of_index;
 use orbits::plain::of_orbit;
 
@@ -19,6 +22,7 @@ pub fn reply(letter: u8, n: &[u64]) -> Reply {
         b'C' => customary_multiplier(n),
         b'E' => element(n),
         b'F' => archives::reply(letter, n),
+        b'G' => gap(n),
         b'I' => index(n),
         b'L' => archives::reply(letter, n),
         b'M' => remake(n),
@@ -43,6 +47,29 @@ fn element(n: &[u64]) -> Reply {
         return Reply::Unreadable;
     }
     of_one(generator::element(generator_of(n), n[4]))
+}
+
+// The third number is 1 where the steps go back, the fourth how many there are.
+fn gap(n: &[u64]) -> Reply {
+    if n.len() != 6 {
+        return Reply::Unreadable;
+    }
+    let r = of_gap(orbits::gap(generator_of(n), n[4], n[5]));
+    let steps = r.steps;
+    if steps < 0 {
+        return Reply::Four(r.refusal, r.found, 1, size(steps));
+    }
+    Reply::Four(r.refusal, r.found, 0, size(steps))
+}
+
+// A number without its sign. That of the least one fits no signed number, so 1 is added behind the cast.
+fn size(steps: i64) -> u64
+    ensures { λ r. ⌜ r ≡ natAbs steps ⌝ }
+{
+    if steps < 0 {
+        return (-1 - steps) as u64 + 1;
+    }
+    steps as u64
 }
 
 fn index(n: &[u64]) -> Reply {

@@ -24,7 +24,7 @@
 extern "C" {
 #endif
 
-#define NP_VERSION "0.5.0"
+#define NP_VERSION "0.6.0"
 
 #define NP_LINE_MAX 107       /* no line of a run is longer, its byte 10 included */
 #define NP_ARCHIVE_MAX 65536  /* no accepted archive is longer */
@@ -39,7 +39,7 @@ enum {
     NP_REFUSED_OPERAND_OUT_OF_RANGE = 4,  /* multiplier, increment or seed is 2^width or more */
     NP_REFUSED_RUN_OUT_OF_RANGE = 5,      /* count 0, or first + count above 2^64 - 1 */
     NP_REFUSED_VALUE_OUT_OF_RANGE = 6,    /* predecessor of a value of 2^width or more */
-    NP_REFUSED_NOT_INVERTIBLE = 7,        /* predecessor with an even multiplier */
+    NP_REFUSED_NOT_INVERTIBLE = 7,        /* predecessor or gap with an even multiplier */
     NP_REFUSED_BUFFER_TOO_SHORT = 8       /* the buffer is shorter than the line */
 };
 
@@ -49,6 +49,7 @@ typedef struct { np_generator generator; uint64_t first, count; } np_run;
 typedef struct { uint64_t refusal, value; } np_value;
 typedef struct { uint64_t refusal, preperiod, exponent; } np_orbit_reply;
 typedef struct { uint64_t refusal, found, index; } np_index_reply;            /* found 0: never */
+typedef struct { uint64_t refusal, found; int64_t steps; } np_gap_reply;      /* found 0: never */
 typedef struct { uint64_t refusal; np_run run; } np_run_reply;
 typedef struct { uint64_t refusal, line, found, position; } np_lookup_reply;  /* found 0, refusal 0: none */
 typedef struct { uint64_t start, length; } np_part;                           /* length 0: the empty part */
@@ -63,6 +64,12 @@ np_orbit_reply  np_orbit(np_generator g);
 
 /* The least index that yields the value (found 1), or never (found 0). Refusals 3, 4. */
 np_index_reply  np_index(np_generator g, uint64_t value);
+
+/* The steps from one number of the sequence to another (found 1), or never (found 0) if either of
+ * them is at no index. With P the period, steps is the d with -P <= 2 d < P such that d single
+ * steps from `from` give `to` or, where d is negative, -d single steps from `to` give `from`: half
+ * the period is -P/2. Refusals 3, 4, 7, the last for every even multiplier, whatever the numbers. */
+np_gap_reply    np_gap(np_generator g, uint64_t from, uint64_t to);
 
 /* The only number below 2^width that one step takes to the value. Refusals 3, 4, 6, 7. */
 np_value        np_predecessor(np_generator g, uint64_t value);
@@ -106,7 +113,7 @@ static inline const char *np_refusal_text(uint64_t refusal)
     case NP_REFUSED_OPERAND_OUT_OF_RANGE: return "the multiplier, the increment or the seed is 2^width or more";
     case NP_REFUSED_RUN_OUT_OF_RANGE: return "the count is 0, or first + count is above 2^64 - 1";
     case NP_REFUSED_VALUE_OUT_OF_RANGE: return "the value is 2^width or more";
-    case NP_REFUSED_NOT_INVERTIBLE: return "the multiplier is even, so there is no single predecessor";
+    case NP_REFUSED_NOT_INVERTIBLE: return "the multiplier is even: a predecessor or a gap needs an odd one";
     case NP_REFUSED_BUFFER_TOO_SHORT: return "the buffer is shorter than the line";
     default: return "no refusal has this number";
     }

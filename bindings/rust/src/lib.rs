@@ -96,6 +96,15 @@ pub enum Index {
     Never,
 }
 
+/// How many steps lead from one number of a sequence to another.
+#[derive(Clone, Copy, Debug, PartialEq, Eq, Hash)]
+pub enum Gap {
+    /// So many, backward if negative: the only count d with −P ≤ 2 d < P, P the period.
+    Steps(i64),
+    /// One of the numbers is at no index, however large.
+    Never,
+}
+
 /// A place in an archive: the number of a line, from 1, and a position of its run, from 0.
 #[derive(Clone, Copy, Debug, PartialEq, Eq, Hash)]
 pub struct Location {
@@ -153,6 +162,29 @@ pub fn orbit(g: Generator) -> Result<Orbit, Refusal> {
 pub fn index(g: Generator, value: u64) -> Result<Index, Refusal> {
     let raw::IndexReply { refusal, found, index } = raw::index(g, value);
     Refusal::of(refusal).map(|()| if found == 0 { Index::Never } else { Index::At(index) })
+}
+
+/// The steps that lead from one number of the sequence to another, or never if either of them is at
+/// no index. Half the period is negative. The multiplier must be odd, whatever the numbers are.
+///
+/// ```
+/// use noonpasture::{gap, Gap, Generator, Refusal};
+///
+/// let g = Generator { width: 4, multiplier: 5, increment: 3, seed: 1 };
+/// assert_eq!(gap(g, 1, 10), Ok(Gap::Steps(3)));
+/// assert_eq!(gap(g, 10, 1), Ok(Gap::Steps(-3)));
+/// assert_eq!(gap(g, 1, 9), Ok(Gap::Steps(-8)));
+/// assert_eq!(gap(g, 9, 1), Ok(Gap::Steps(-8)));
+/// assert_eq!(gap(g, 1, 16), Ok(Gap::Never));
+/// assert_eq!(gap(Generator { multiplier: 6, ..g }, 1, 16), Err(Refusal::NotInvertible));
+///
+/// let counter = Generator { width: 64, multiplier: 1, increment: 1, seed: 0 };
+/// assert_eq!(gap(counter, 0, 1 << 63), Ok(Gap::Steps(i64::MIN)));
+/// ```
+#[inline]
+pub fn gap(g: Generator, from: u64, to: u64) -> Result<Gap, Refusal> {
+    let raw::GapReply { refusal, found, steps } = raw::gap(g, from, to);
+    Refusal::of(refusal).map(|()| if found == 0 { Gap::Never } else { Gap::Steps(steps) })
 }
 
 /// The only number below 2^width that one step takes to the value.

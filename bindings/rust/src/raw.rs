@@ -27,6 +27,15 @@ pub struct IndexReply {
     pub index: u64,
 }
 
+/// `found` is 0 for never.
+#[repr(C)]
+#[derive(Clone, Copy, Debug, Default, PartialEq, Eq)]
+pub struct GapReply {
+    pub refusal: u64,
+    pub found: u64,
+    pub steps: i64,
+}
+
 #[repr(C)]
 #[derive(Clone, Copy, Debug, Default, PartialEq, Eq)]
 pub struct RunReply {
@@ -59,6 +68,7 @@ mod foreign {
         pub fn np_element(g: Generator, index: u64) -> Value;
         pub fn np_orbit(g: Generator) -> OrbitReply;
         pub fn np_index(g: Generator, value: u64) -> IndexReply;
+        pub fn np_gap(g: Generator, from: u64, to: u64) -> GapReply;
         pub fn np_predecessor(g: Generator, value: u64) -> Value;
         pub fn np_customary_multiplier(width: u64) -> Value;
         pub fn np_variety(run: Run) -> Value;
@@ -85,6 +95,11 @@ pub fn orbit(g: Generator) -> OrbitReply {
 #[inline]
 pub fn index(g: Generator, value: u64) -> IndexReply {
     unsafe { foreign::np_index(g, value) }
+}
+
+#[inline]
+pub fn gap(g: Generator, from: u64, to: u64) -> GapReply {
+    unsafe { foreign::np_gap(g, from, to) }
 }
 
 #[inline]

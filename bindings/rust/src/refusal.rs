@@ -58,7 +58,7 @@ impl Display for Refusal {
             Refusal::OperandOutOfRange => "the multiplier, the increment or the seed is 2^width or more",
             Refusal::RunOutOfRange => "the count is 0, or first + count is above 2^64 - 1",
             Refusal::ValueOutOfRange => "the value is 2^width or more",
-            Refusal::NotInvertible => "the multiplier is even, so there is no single predecessor",
+            Refusal::NotInvertible => "the multiplier is even: a predecessor or a gap needs an odd one",
             Refusal::BufferTooShort => "the buffer is shorter than the line",
         })
     }

@@ -4,19 +4,21 @@
 
 The file stdin has one call a line, as decimal numbers separated by commas behind the call's letter:
 
-    E  element               width, multiplier, increment, seed, index   refusal, value
-    O  orbit                 width, multiplier, increment, seed          refusal, preperiod, exponent
-    I  index                 width, multiplier, increment, seed, number  refusal, found, index
-    P  predecessor           width, multiplier, increment, seed, number  refusal, value
-    C  customary multiplier  width                                       refusal, value
-    V  variety               the six numbers of a run                    refusal, value
-    W  write line            the six numbers of a run, buffer's length   refusal, length
-    R  read line             count of bytes, the bytes                   refusal, the six numbers
-    L  line                  number, count of bytes, the bytes           start, length
-    F  lookup (find)         number, count of bytes, the bytes           refusal, line, found, position
-    M  remake                the six numbers of a run, position, lent    refusal, count, 5 numbers
+    E  element               width, multiplier, increment, seed, index     refusal, value
+    O  orbit                 width, multiplier, increment, seed            refusal, preperiod, exponent
+    I  index                 width, multiplier, increment, seed, number    refusal, found, index
+    G  gap                   width, multiplier, increment, seed, from, to  refusal, found, backward, steps
+    P  predecessor           width, multiplier, increment, seed, number    refusal, value
+    C  customary multiplier  width                                         refusal, value
+    V  variety               the six numbers of a run                      refusal, value
+    W  write line            the six numbers of a run, buffer's length     refusal, length
+    R  read line             count of bytes, the bytes                     refusal, the six numbers
+    L  line                  number, count of bytes, the bytes             start, length
+    F  lookup (find)         number, count of bytes, the bytes             refusal, line, found, position
+    M  remake                the six numbers of a run, position, lent      refusal, count, 5 numbers
 
 The file stdout has the reply to each, the numbers on the right. No call has more than 250 numbers.
+G's backward is 1 if steps lead back, and else 0, so that all fields are plain numbers.
 The five numbers of M are a buffer that held 1, 2, 3, 4, 5, and of which the first 0 to 5 were lent.
 """
 
@@ -31,10 +33,17 @@ SEED = 20260101
 TOP = 2**64 - 1
 REFUSED_WIDTHS = (0, 65, 66, 128, 2**32, 2**63, TOP)
 
+
+def gap_reply(*args):
+    refusal, found, steps = ref.gap(*args)
+    return refusal, found, int(steps < 0), abs(steps)
+
+
 REPLY = {
     "E": ref.element,
     "O": ref.orbit,
     "I": ref.index,
+    "G": gap_reply,
     "P": ref.predecessor,
     "C": ref.customary_multiplier,
     "V": ref.variety,
@@ -343,10 +352,101 @@ def remaking_calls():
             yield "M", (*run, position, lent)
 
 
+# For the gap. Even multipliers, with numbers on the orbit and off it; and periods of 1, 2, 2^63 and 2^64.
+EVEN = (1, 0, 1, 0), (4, 2, 0, 1), (4, 6, 1, 1), (64, 6, 1, 1)
+PERIODS = (
+    (1, 1, 0, 0),
+    (4, 1, 0, 9),
+    (64, 1, 0, 9),
+    (1, 1, 1, 0),
+    (4, 15, 0, 1),
+    (64, TOP, 0, 1),
+    (63, 5, 3, 1),
+    (64, 1, 2, 5),
+    (64, 1, 1, 0),
+    (64, 6364136223846793005, 1442695040888963407, 0),
+)
+
+
+def refused_gaps():
+    """Width or operand refused, beside an even multiplier too; and an even multiplier by itself."""
+    for width in REFUSED_WIDTHS:
+        yield (width, 0, 0, 0), 0, 0
+        yield (width, TOP, TOP, TOP), 0, 0
+    for g in ((4, 16, 3, 1), (4, 17, 3, 1), (4, 5, 16, 1), (4, 6, 16, 1), (4, 5, 3, 16), (4, 6, 3, 16)):
+        yield g, 1, 1
+        yield g, 16, TOP
+    for g in EVEN:
+        shown, absent = ref.element(*g, 1)[1], 2 ** g[0] - 2
+        for start, end in product((g[3], shown, absent, TOP), repeat=2):
+            yield g, start, end
+
+
+def apart(g, i, d):
+    """The numbers at an index and d behind it."""
+    period = 2 ** ref.orbit(*g)[2]
+    return ref.element(*g, i % period)[1], ref.element(*g, (i + d) % period)[1]
+
+
+def gaps_near_the_bounds():
+    """About 0 and half the period, from a number near the seed and from any."""
+    for g in PERIODS:
+        half = 2 ** ref.orbit(*g)[2] // 2
+        for d in (0, 1, -1, half - 1, half, half + 1):
+            start, end = apart(g, pick((0, 1, half, TOP, below(2**64))), d)
+            yield g, start, end
+            yield g, end, start
+
+
+def absent_number(g):
+    """Below 2^n if there is one, else above."""
+    size = 2 ** g[0]
+    tried = [below(size) for _ in range(8)] + [min(size + below(2), TOP)]
+    return next(y for y in tried if not ref.index(*g, y)[1])
+
+
+def gaps_with_absent_numbers():
+    """From, to, both missing; the same number missing twice. A period of 2^64 misses none."""
+    for g in ((10, 371, 995, 73), (5, 3, 0, 2), (4, 1, 0, 9), *WIDE, (63, 5, 3, 1)):
+        if g[1] % 2 == 1 and ref.orbit(*g)[2] < 64:
+            shown, absent = ref.element(*g, below(2**64))[1], absent_number(g)
+            yield g, absent, shown
+            yield g, shown, absent
+            yield g, absent, absent
+            yield g, absent, absent_number(g)
+
+
+def worked_gaps():
+    """Between all numbers of document 01's shortest orbits and one more; along its longer ones."""
+    for g in ((5, 3, 0, 2), (4, 15, 0, 1), (1, 1, 1, 0), (4, 1, 0, 9)):
+        numbers = {ref.element(*g, i)[1] for i in range(4)}
+        for start, end in product(sorted(numbers | {2 ** g[0]}), repeat=2):
+            yield g, start, end
+    for end in range(17):
+        yield (4, 5, 3, 1), 1, end
+        yield (4, 5, 3, 1), end, 1
+    for start, end in ((73, 49), (49, 985), (985, 49), (49, 75), (75, 49), (49, 1073)):
+        yield (10, 371, 995, 73), start, end
+
+
+def random_gaps():
+    """On the orbit, near it, anywhere, or too wide."""
+    for g in generators():
+        if g[1] % 2 == 1:
+            near = apart(g, below(2**64), pick((0, 1, -1, below(2**64), 2 ** below(64))))
+            yield g, *pick((near, near, (a_number(g), a_number(g))))
+
+
+def gap_calls():
+    for part in (refused_gaps, gaps_near_the_bounds, gaps_with_absent_numbers, worked_gaps, random_gaps):
+        for g, start, end in part():
+            yield "G", (*g, start, end)
+
+
 def all_calls():
     refused = refused_generators, refused_runs, one_way, refused_archives
     accepted = long_sequences, wide_calls, printed_tables, valid_calls, reading_calls, archive_calls, remaking_calls
-    parts = bounds, *refused, *accepted
+    parts = bounds, *refused, *accepted, gap_calls
     return dict.fromkeys((code, tuple(args)) for part in parts for code, args in part())
 
 

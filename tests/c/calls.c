@@ -125,6 +125,14 @@ static void print_index(np_index_reply r)
     print(3, r.refusal, r.found, r.index);
 }
 
+/* A negative count of steps as 1 and its absolute value, which for -2^63 only a uint64_t holds. */
+static void print_gap(np_gap_reply r)
+{
+    uint64_t backward = r.steps < 0, steps = (uint64_t)r.steps;
+
+    print(4, r.refusal, r.found, backward, backward ? 0 - steps : steps);
+}
+
 static void print_run(np_run_reply r)
 {
     np_generator g = r.run.generator;
@@ -164,6 +172,7 @@ int main(void)
         case 'E': print_value(np_element(generator(), numbers[4])); break;
         case 'O': print_orbit(np_orbit(generator())); break;
         case 'I': print_index(np_index(generator(), numbers[4])); break;
+        case 'G': print_gap(np_gap(generator(), numbers[4], numbers[5])); break;
         case 'P': print_value(np_predecessor(generator(), numbers[4])); break;
         case 'C': print_value(np_customary_multiplier(numbers[0])); break;
         case 'V': print_value(np_variety(run())); break;

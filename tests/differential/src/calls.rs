@@ -1,6 +1,6 @@
 //! The arguments and replies of the calls, and what the implementations beside the library share.
 
-pub use noonpasture::raw::{IndexReply, LookupReply, OrbitReply, Part, RunReply, Value};
+pub use noonpasture::raw::{GapReply, IndexReply, LookupReply, OrbitReply, Part, RunReply, Value};
 pub use noonpasture::{Generator, Run};
 
 pub const ARCHIVE_TOO_LONG: u64 = 1;

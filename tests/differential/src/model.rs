@@ -3,7 +3,7 @@
 
 use crate::calls::*;
 use crate::formula;
-use crate::trail::{low, Trail};
+use crate::trail::{low, step, Trail};
 
 /// Up to this width odd multipliers are stepped through; even ones always are.
 const STEPPED_WIDTH: u64 = 8;
@@ -43,6 +43,26 @@ fn index_of(g: Generator, number: u64) -> Option<u64> {
     } else {
         formula::index(g, number)
     }
+}
+
+/// How many steps lead from one number to another, both on the orbit of an odd multiplier.
+fn steps_between(g: Generator, from: u64, to: u64) -> Option<u64> {
+    if !is_stepped(g) {
+        return formula::index(Generator { seed: from, ..g }, to);
+    }
+    let (mut x, mut count) = (from, 0);
+    while x != to {
+        (x, count) = (step(g, x), count + 1);
+    }
+    Some(count)
+}
+
+/// The shorter way, backward ones negative and preferred if both are as long.
+fn gap_of(g: Generator, from: u64, to: u64) -> Option<i64> {
+    index_of(g, from).and(index_of(g, to))?;
+    let (forward, backward) = (steps_between(g, from, to)?, steps_between(g, to, from)?);
+    let gap = if forward < backward { forward.into() } else { -i128::from(backward) };
+    Some(gap.try_into().expect("a gap of more than half a period"))
 }
 
 /// The least position of the run that shows the number.
@@ -93,6 +113,15 @@ pub fn index(g: Generator, number: u64) -> IndexReply {
     let refusal = generator_refusal(g);
     let found = if refusal == 0 { index_of(g, number) } else { None };
     IndexReply { refusal, found: found.is_some().into(), index: found.unwrap_or(0) }
+}
+
+pub fn gap(g: Generator, from: u64, to: u64) -> GapReply {
+    let refusal = match generator_refusal(g) {
+        0 if !is_odd(g.multiplier) => NOT_INVERTIBLE,
+        refusal => refusal,
+    };
+    let found = if refusal == 0 { gap_of(g, from, to) } else { None };
+    GapReply { refusal, found: found.is_some().into(), steps: found.unwrap_or(0) }
 }
 
 pub fn predecessor(g: Generator, number: u64) -> Value {
@@ -228,16 +257,43 @@ pub fn lookup(archive: &[u8], number: u64) -> LookupReply {
 #[cfg(test)]
 mod tests {
     use super::*;
+    use crate::random::Random;
+    use crate::samples;
+
+    fn generator(n: &[u64]) -> Generator {
+        Generator { width: n[0], multiplier: n[1], increment: n[2], seed: n[3] }
+    }
+
+    fn value(v: Value) -> Vec<u64> {
+        vec![v.refusal, v.value]
+    }
+
+    fn reply_on_generator(code: &str, n: &[u64]) -> Vec<u64> {
+        let g = generator(n);
+        match code {
+            "E" => value(element(g, n[4])),
+            "P" => value(predecessor(g, n[4])),
+            "O" => {
+                let r = orbit(g);
+                vec![r.refusal, r.preperiod, r.exponent]
+            }
+            "I" => {
+                let r = index(g, n[4]);
+                vec![r.refusal, r.found, r.index]
+            }
+            "G" => {
+                let r = gap(g, n[4], n[5]);
+                vec![r.refusal, r.found, (r.steps < 0).into(), r.steps.unsigned_abs()]
+            }
+            _ => panic!("no call {code}"),
+        }
+    }
 
     /// The reply to one call of the vectors, its bytes without their count.
     fn reply(code: &str, n: &[u64]) -> Vec<u64> {
         let bytes = |from: usize| n[from + 1..].iter().map(|&byte| byte as u8).collect::<Vec<u8>>();
-        let g = |n: &[u64]| Generator { width: n[0], multiplier: n[1], increment: n[2], seed: n[3] };
-        let run = |n: &[u64]| Run { generator: g(n), first: n[4], count: n[5] };
-        let value = |v: Value| vec![v.refusal, v.value];
+        let run = |n: &[u64]| Run { generator: generator(n), first: n[4], count: n[5] };
         match code {
-            "E" => value(element(g(n), n[4])),
-            "P" => value(predecessor(g(n), n[4])),
             "C" => value(customary_multiplier(n[0])),
             "V" => value(variety(run(n))),
             "W" => value(write_line(run(n), &mut vec![0; n[6] as usize])),
@@ -245,14 +301,6 @@ mod tests {
                 let mut values = [1, 2, 3, 4, 5];
                 let r = remake(run(n), n[6], &mut values[..n[7] as usize]);
                 [&[r.refusal, r.value], values.as_slice()].concat()
-            }
-            "O" => {
-                let r = orbit(g(n));
-                vec![r.refusal, r.preperiod, r.exponent]
-            }
-            "I" => {
-                let r = index(g(n), n[4]);
-                vec![r.refusal, r.found, r.index]
             }
             "R" => {
                 let r = read_line(&bytes(0));
@@ -267,7 +315,7 @@ mod tests {
                 let r = lookup(&bytes(1), n[0]);
                 vec![r.refusal, r.line, r.found, r.position]
             }
-            _ => panic!("no call {code}"),
+            _ => reply_on_generator(code, n),
         }
     }
 
@@ -279,6 +327,26 @@ mod tests {
             let numbers: Vec<u64> = numbers.split(',').map(|n| n.parse().unwrap()).collect();
             let got: Vec<String> = reply(code, &numbers).iter().map(u64::to_string).collect();
             assert_eq!(got.join(","), expected, "{call}");
+        }
+    }
+
+    /// Within half a period, from the one number to the other or back; never if one has no index.
+    #[test]
+    fn gap_agrees_with_its_definition() {
+        let mut r = Random::new(3);
+        for _ in 0..100_000 {
+            let g = samples::generator(&mut r);
+            let (from, to) = samples::two_numbers(&mut r, g);
+            let GapReply { refusal, found, steps } = gap(g, from, to);
+            if refusal != 0 {
+                continue;
+            }
+            assert_eq!(found, index(g, from).found & index(g, to).found, "{from}, {to} in {g:?}");
+            let (period, twice) = (1i128 << orbit(g).exponent, 2 * i128::from(steps));
+            assert!(-period <= twice && twice < period, "{steps} from {from} to {to} in {g:?}");
+            let (start, end) = if steps < 0 { (to, from) } else { (from, to) };
+            let reached = element_of(Generator { seed: start, ..g }, steps.unsigned_abs());
+            assert!(found == 0 || reached == end, "{steps} from {from} to {to} in {g:?}");
         }
     }
 }

@@ -80,6 +80,19 @@ pub fn number(r: &mut Random, g: Generator) -> u64 {
     r.pick(&choices)
 }
 
+/// Two numbers: mostly on the generator's orbit, a few steps from each other, half the period or any
+/// number of steps; else each for itself.
+pub fn two_numbers(r: &mut Random, g: Generator) -> (u64, u64) {
+    if r.one_in(4) {
+        return (number(r, g), number(r, g));
+    }
+    let (i, near) = (index(r), r.below(5).wrapping_sub(2));
+    let half = (1u128 << model::orbit(g).exponent >> 1) as u64;
+    let apart = [near, half.wrapping_add(near), half, r.any(), r.word()];
+    let j = i.wrapping_add(r.pick(&apart));
+    (model::element(g, i).value, model::element(g, j).value)
+}
+
 fn accepted_run(r: &mut Random, generator: Generator) -> Run {
     let firsts = [0, r.below(100), r.any(), r.word(), u64::MAX - 1 - r.below(100)];
     let first = r.pick(&firsts).min(u64::MAX - 1);

@@ -1,9 +1,11 @@
-//! Compares every call of the proved library with the model: on all generators of widths 1 to 5,
-//! and on random calls, accepted and refused. Ends with status 1 at the first difference.
+//! Compares every call of the proved library with the model: on all generators of widths 1 to 5, on
+//! all pairs of numbers for the gap, and on random calls, accepted and refused. Ends with status 1 at
+//! the first difference.
 //!
 //!     cargo run --release --bin differential
 
 use std::fmt::{self, Debug, Formatter};
+use std::ops::RangeInclusive;
 use std::thread;
 use std::time::Instant;
 
@@ -21,6 +23,7 @@ enum Kind {
     Element,
     Orbit,
     Index,
+    Gap,
     Predecessor,
     Variety,
     CustomaryMultiplier,
@@ -31,10 +34,11 @@ enum Kind {
     Remake,
 }
 
-const KINDS: [&str; 11] = [
+const KINDS: [&str; 12] = [
     "element",
     "orbit",
     "index",
+    "gap",
     "predecessor",
     "variety",
     "customary_multiplier",
@@ -86,6 +90,16 @@ impl Reply for RunReply {
 }
 
 impl Reply for IndexReply {
+    fn refusal(&self) -> u64 {
+        self.refusal
+    }
+
+    fn is_nothing(&self) -> bool {
+        self.found == 0
+    }
+}
+
+impl Reply for GapReply {
     fn refusal(&self) -> u64 {
         self.refusal
     }
@@ -181,6 +195,20 @@ impl Tally {
         self.compare(Kind::Index, &(g, number), library, model);
     }
 
+    fn gap(&mut self, g: Generator, from: u64, to: u64) {
+        let (library, model) = (library::gap(g, from, to), model::gap(g, from, to));
+        self.compare(Kind::Gap, &(g, from, to), library, model);
+    }
+
+    /// From each of the numbers to each.
+    fn gaps(&mut self, g: Generator, numbers: &[u64]) {
+        for &from in numbers {
+            for &to in numbers {
+                self.gap(g, from, to);
+            }
+        }
+    }
+
     fn predecessor(&mut self, g: Generator, number: u64) {
         let (library, model) = (library::predecessor(g, number), model::predecessor(g, number));
         self.compare(Kind::Predecessor, &(g, number), library, model);
@@ -247,18 +275,68 @@ fn all_calls_on(tally: &mut Tally, g: Generator) {
     }
 }
 
-/// The share that begins at this seed: every second one.
-fn all_generators(share: u64) -> Tally {
-    let mut tally = Tally::default();
-    for width in 1..=5 {
+/// Visits the share that begins at this seed: every second one.
+fn each_generator(widths: RangeInclusive<u64>, share: u64, mut visit: impl FnMut(Generator)) {
+    for width in widths {
         let size = 1 << width;
         for multiplier in 0..size {
             for increment in 0..size {
                 for seed in (share..size).step_by(SHARES as usize) {
-                    all_calls_on(&mut tally, Generator { width, multiplier, increment, seed });
+                    visit(Generator { width, multiplier, increment, seed });
                 }
             }
         }
+    }
+}
+
+fn all_generators(share: u64) -> Tally {
+    let mut tally = Tally::default();
+    each_generator(1..=5, share, |g| all_calls_on(&mut tally, g));
+    tally
+}
+
+// Gaps: of every pair of numbers at a narrow width, some of them too wide; of chosen periods.
+
+fn all_pairs(share: u64) -> Tally {
+    let mut tally = Tally::default();
+    each_generator(1..=4, share, |g| {
+        let numbers: Vec<u64> = (0..(1 << g.width) + 3).chain([u64::MAX]).collect();
+        tally.gaps(g, &numbers);
+    });
+    tally
+}
+
+/// The exponent of a period, and a generator that has it.
+const PERIODS: [(u64, [u64; 4]); 12] = [
+    (0, [1, 1, 0, 1]),
+    (0, [4, 1, 0, 9]),
+    (0, [64, 1, 0, 9]),
+    (1, [1, 1, 1, 0]),
+    (1, [4, 15, 0, 1]),
+    (1, [64, u64::MAX, 0, 1]),
+    (1, [64, 1, 1 << 63, 7]),
+    (63, [63, 5, 3, 1]),
+    (63, [64, 1, 2, 5]),
+    (63, [64, 6_364_136_223_846_793_005, 2, 1]),
+    (64, [64, 1, 1, 0]),
+    (64, [64, 6_364_136_223_846_793_005, 1_442_695_040_888_963_407, 0]),
+];
+
+/// Between elements at the start, the half and the end of the period, and numbers near them.
+fn chosen_periods() -> Tally {
+    let mut tally = Tally::default();
+    for (exponent, [width, multiplier, increment, seed]) in PERIODS {
+        let g = Generator { width, multiplier, increment, seed };
+        assert_eq!(model::orbit(g).exponent, exponent, "{g:?}");
+        let period = 1u128 << exponent;
+        let mut numbers = vec![0, u64::MAX];
+        for place in [0, period / 4, period / 2, period] {
+            for index in (0..5).map(|near| (place as u64).wrapping_add(near).wrapping_sub(2)) {
+                let shown = model::element(g, index).value;
+                numbers.extend([shown, shown ^ 1, shown ^ 1 << (width - 1), shown ^ 1 << 63]);
+            }
+        }
+        tally.gaps(g, &numbers);
     }
     tally
 }
@@ -300,6 +378,14 @@ fn random_remakes(r: &mut Random, tally: &mut Tally, calls: u64) {
     }
 }
 
+fn random_gaps(r: &mut Random, tally: &mut Tally, calls: u64) {
+    for _ in 0..calls {
+        let g = samples::generator(r);
+        let (from, to) = samples::two_numbers(r, g);
+        tally.gap(g, from, to);
+    }
+}
+
 fn on_archive(r: &mut Random, tally: &mut Tally, archive: &samples::Archive) {
     for &number in &archive.numbers {
         tally.lookup(&archive.bytes, number);
@@ -335,6 +421,7 @@ fn random_calls(share: u64) -> Tally {
     random_archives(&mut r, &mut tally, calls);
     long_archives(&mut r, &mut tally);
     random_remakes(&mut r, &mut tally, calls);
+    random_gaps(&mut r, &mut tally, calls);
     tally
 }
 
@@ -351,6 +438,8 @@ fn shared(work: fn(u64) -> Tally) -> Tally {
 fn main() {
     let start = Instant::now();
     shared(all_generators).print("all generators of widths 1 to 5");
+    shared(all_pairs).print("all pairs, widths 1 to 4");
+    chosen_periods().print("periods of 1, 2, 2^63 and 2^64");
     shared(random_calls).print("random calls");
     println!("\nno difference, {} seconds", start.elapsed().as_secs());
 }

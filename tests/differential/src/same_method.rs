@@ -65,10 +65,11 @@ fn element_of(g: Generator, index: u64) -> u64 {
     steps(Map::step(g), index).apply(g.seed) & mask(g.width)
 }
 
-/// For an odd multiplier. Up to each place `index` is the least index that agrees with the number,
-/// `away` what its element is above the number, `gap` what the element one period of the places so
-/// far on is above that, and `factor` what such a period multiplies differences by.
-fn index_up_the_places(g: Generator, number: u64) -> Option<u64> {
+/// For an odd multiplier the index and the period, 0 for 2^64. Up to each place `index` is the least
+/// index that agrees with the number, `away` what its element is above the number, `gap` what the
+/// element one period of the places so far on is above that, and `factor` what such a period
+/// multiplies differences by.
+fn index_up_the_places(g: Generator, number: u64) -> Option<(u64, u64)> {
     let (mut index, mut period, mut factor, mut places) = (0, 1u64, g.multiplier, 1u64);
     let mut away = g.seed.wrapping_sub(number);
     let mut gap = Map::step(g).apply(g.seed).wrapping_sub(g.seed);
@@ -90,7 +91,7 @@ fn index_up_the_places(g: Generator, number: u64) -> Option<u64> {
             return None;
         }
     }
-    Some(index)
+    Some((index, period))
 }
 
 /// For an even multiplier, whose sequence stands still after at most n steps.
@@ -109,10 +110,29 @@ fn index_of(g: Generator, number: u64) -> Option<u64> {
     if number > mask(g.width) {
         None
     } else if g.multiplier % 2 == 1 {
-        index_up_the_places(g, number)
+        index_up_the_places(g, number).map(|(index, _)| index)
     } else {
         index_by_steps(g, number)
     }
+}
+
+/// A function of its own: two of the loops in `gap` would be short of registers, and take a sixth
+/// longer.
+#[inline(never)]
+fn index_and_period(g: Generator, number: u64) -> Option<(u64, u64)> {
+    index_up_the_places(g, number)
+}
+
+/// For an odd multiplier, from the indices of both numbers.
+fn gap_of(g: Generator, from: u64, to: u64) -> Option<i64> {
+    if from > mask(g.width) || to > mask(g.width) {
+        return None;
+    }
+    let (start, _) = index_and_period(g, from)?;
+    let (end, period) = index_and_period(g, to)?;
+    let last = period.wrapping_sub(1);
+    let forward = end.wrapping_sub(start) & last;
+    Some(if forward > last / 2 { forward | !last } else { forward } as i64)
 }
 
 #[inline(never)]
@@ -132,6 +152,21 @@ pub fn index(g: Generator, number: u64) -> IndexReply {
     match index_of(g, number) {
         Some(index) => IndexReply { refusal: 0, found: 1, index },
         None => IndexReply::default(),
+    }
+}
+
+#[inline(never)]
+pub fn gap(g: Generator, from: u64, to: u64) -> GapReply {
+    let refusal = generator_refusal(g);
+    if refusal != 0 {
+        return GapReply { refusal, ..GapReply::default() };
+    }
+    if g.multiplier & 1 == 0 {
+        return GapReply { refusal: NOT_INVERTIBLE, ..GapReply::default() };
+    }
+    match gap_of(g, from, to) {
+        Some(steps) => GapReply { refusal: 0, found: 1, steps },
+        None => GapReply::default(),
     }
 }
 

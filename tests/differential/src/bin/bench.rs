@@ -1,5 +1,5 @@
-//! Times the proved library against plain Rust of the same method and against the peers' way, in one
-//! run, as markdown tables:
+//! Times the proved library against plain Rust of the same method and against the peers' way, and its
+//! gap against its index, in one run, as markdown tables:
 //!
 //!     cargo run --release --bin bench [-- [--plain] [ROWS]]
 //!
@@ -138,6 +138,15 @@ fn index(inputs: &[(Generator, u64)]) -> Timing {
     measured(inputs, |(g, y)| library::index(g, y), |(g, y)| same_method::index(g, y))
 }
 
+fn gap(inputs: &[(Generator, u64, u64)]) -> Timing {
+    measured(inputs, |(g, x, y)| library::gap(g, x, y), |(g, x, y)| same_method::gap(g, x, y))
+}
+
+/// The library's two calls; that both find the numbers is compared.
+fn gap_and_index(inputs: &[(Generator, u64, u64)]) -> Timing {
+    measured(inputs, |(g, x, y)| library::gap(g, x, y).found, |(g, _, y)| library::index(g, y).found)
+}
+
 fn element_and_advance(inputs: &[(Generator, u64)]) -> Timing {
     measured(
         inputs,
@@ -192,6 +201,7 @@ fn calls(out: &Output, r: &mut Random) {
     out.row("index", "width 64, found", || index(&several(|_| (wide_generator(r), r.word()))));
     out.row("index", "width 64, never, seen at the lowest place", || index(&several(|_| never_at(r, 1))));
     out.row("index", "width 64, never, seen at place 62", || index(&several(|_| never_at(r, 63))));
+    out.row("gap", "width 64, found", || gap(&several(|_| (wide_generator(r), r.word(), r.word()))));
     let runs = several(|_| wide_run(r));
     let lines: Vec<Vec<u8>> = runs.iter().map(line_of).collect();
     out.row("read_line", "about 95 bytes", || read_line(&lines));
@@ -213,6 +223,12 @@ fn peers_way(out: &Output, r: &mut Random) {
     let inputs = several(|_| (wide_generator(r), r.word()));
     out.row("element, advance", "width 64, any index", || element_and_advance(&inputs));
     out.row("index, distance", "width 64, any number", || index_and_distance(&inputs));
+}
+
+fn beside_index(out: &Output, r: &mut Random) {
+    out.heading("beside index", "index");
+    let inputs = several(|_| (wide_generator(r), r.word(), r.word()));
+    out.row("gap, index", "width 64, any two numbers", || gap_and_index(&inputs));
 }
 
 fn growth(out: &Output, r: &mut Random) {
@@ -241,5 +257,6 @@ fn main() {
     let mut r = Random::new(SEED);
     calls(&out, &mut r);
     peers_way(&out, &mut r);
+    beside_index(&out, &mut r);
     growth(&out, &mut r);
 }

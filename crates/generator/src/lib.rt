@@ -7,6 +7,7 @@ ghost use Rattle.generator.specs.Predecessor.{predecessorRefusal, Predec
 ghost use Rattle.generator.specs.Customary.{CustomaryPromise};
 use kinds::exceeds_modulus;
 
+pub mod checks;
 pub mod customary;
 pub mod kinds;
 pub mod linear;

@@ -12,7 +12,7 @@ use Rattle.generator.specs.declared.Generator.{Generator}
 use Rattle.generator.specs.Recurrence.{modulus, step, element}
 use Rattle.generator.specs.Refusals.{refusalOf}
 use Rattle.orbits.specs.declared.GapReply.{GapReply}
-use Rattle.orbits.specs.Gap.{gapRefusal, period, gapReply}
+use Rattle.orbits.specs.Gap.{oddRefusal, gapRefusal, period, gapReply}
 
 abbrev gen : ℕ → ℕ → ℕ → ℕ → Generator
 gen n a c x = record { width = n; multiplier = a; increment = c; seed = x }
@@ -39,26 +39,26 @@ full : reply (gen 4 5 3 1) 8 5 ∷ reply (gen 4 5 3 1) 5 8 ∷ reply (gen 4 5 3 
     ∷ reply (gen 4 5 3 1) 16 1 ∷ reply (gen 4 5 3 1) 1 16 ∷ []
     ≡ steps (pos 3) ∷ steps (negsuc 2) ∷ steps (pos 1) ∷ steps (negsuc 0) ∷ steps (pos 7) ∷ steps (negsuc 7) ∷ steps (negsuc 7)
     ∷ steps (pos 0) ∷ never ∷ never ∷ []
-unfolding gapRefusal period refusalOf occurs stepsOf aheadOf indexOf periodOf preperiodOf returnOf least element step modulus
+unfolding gapRefusal oddRefusal period refusalOf occurs stepsOf aheadOf indexOf periodOf preperiodOf returnOf least element step modulus
 full = refl
 
 -- 5,3,0,1 has the odd numbers 1, 3, 9, 27, 17, 19, 25, 11 only: period 8
 some : reply (gen 5 3 0 1) 11 3 ∷ reply (gen 5 3 0 1) 1 17 ∷ reply (gen 5 3 0 1) 2 3 ∷ reply (gen 5 3 0 1) 3 5 ∷ []
     ≡ steps (pos 2) ∷ steps (negsuc 3) ∷ never ∷ never ∷ []
-unfolding gapRefusal period refusalOf occurs stepsOf aheadOf indexOf periodOf preperiodOf returnOf least element step modulus
+unfolding gapRefusal oddRefusal period refusalOf occurs stepsOf aheadOf indexOf periodOf preperiodOf returnOf least element step modulus
 some = refl
 
 -- the periods 1 and 2
 short : reply (gen 4 1 0 9) 9 9 ∷ reply (gen 4 1 0 9) 9 8 ∷ reply (gen 1 1 1 0) 0 1 ∷ reply (gen 1 1 1 0) 1 0 ∷ reply (gen 1 1 1 0) 1 1 ∷ []
     ≡ steps (pos 0) ∷ never ∷ steps (negsuc 0) ∷ steps (negsuc 0) ∷ steps (pos 0) ∷ []
-unfolding gapRefusal period refusalOf occurs stepsOf aheadOf indexOf periodOf preperiodOf returnOf least element step modulus
+unfolding gapRefusal oddRefusal period refusalOf occurs stepsOf aheadOf indexOf periodOf preperiodOf returnOf least element step modulus
 short = refl
 
 -- 3 and 4 before 7, and 7 whatever the numbers are
 refusals : map gapRefusal (gen 65 2 0 0 ∷ gen 0 0 0 0 ∷ gen 4 16 0 0 ∷ gen 4 2 16 0 ∷ gen 4 2 0 1 ∷ gen 4 3 0 1 ∷ []) ≡ 3 ∷ 3 ∷ 4 ∷ 4 ∷ 7 ∷ 0 ∷ []
-unfolding gapRefusal refusalOf modulus
+unfolding gapRefusal oddRefusal refusalOf modulus
 refusals = refl
 
 even : reply (gen 4 2 0 1) 16 99 ≡ refused 7
-unfolding gapRefusal refusalOf modulus
+unfolding gapRefusal oddRefusal refusalOf modulus
 even = refl

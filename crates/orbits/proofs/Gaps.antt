@@ -31,7 +31,7 @@ use Rattle.orbits.specs.declared.GapAnswer.the-variants as answer
 use Rattle.orbits.specs.declared.kinds.Cycle.{Cycle}
 use Rattle.orbits.specs.declared.kinds.Sighting.the-variants as sighting
 use Rattle.orbits.specs.Orbit.{IsCycle}
-use Rattle.orbits.specs.Gap.{gapRefusal, period, gapOf, GapPromise, SightingIs}
+use Rattle.orbits.specs.Gap.{oddRefusal, gapRefusal, period, gapOf, GapPromise, SightingIs}
 use Rattle.orbits.proofs.Elements.{reduced, isometric}
 use Rattle.orbits.proofs.SignedCounts.{signed-fits}
 use Rattle.orbits.proofs.Orbits.{odd-cycle, odd-has-cycle, cycle-room}
@@ -50,10 +50,10 @@ settled-sighting {g} {y} {k = k} pre s all h q = (
 
 -- a generator that the call accepts
 pub gap-accepted : (g : Generator) → gapRefusal g ≡ 0 → (refusalOf g ≡ 0) × (g .multiplier % 2 ≡ 1)
-unfolding gapRefusal
+unfolding gapRefusal oddRefusal
 gap-accepted g e = (both .0, ⊎-elim (λ z. absurd (eqb-false _ _ (odd .0) z)) (λ o. o) (mod-two (g .multiplier)))
   where
-    both : (refusalOf g ≡ 0) × (_≡_ {A = ℕ} (cond (eqb (g .multiplier % 2) 0) 7 0) 0)
+    both : (refusalOf g ≡ 0) × (oddRefusal g ≡ 0)
     both = or-else-none _ _ e
 
     odd : (eqb (g .multiplier % 2) 0 ≡ false) × (_≡_ {A = ℕ} 0 0)

@@ -2,8 +2,8 @@
 -- it is below 2 ^ 63; back it is one step more than the number that is taken from −1.
 use mathlib.Core.Path.{_≡_, refl, sym, ap, _∙_}
 use mathlib.Core.Logic.{by-cases}
-use Prim.Native.Nat.{ℕ, zero, suc, _+_, _-_, _*_, _^_, _≤_, _<_}
-use native.Mathlib.Decide.{decLe}
+use Prim.Native.Nat.{ℕ, zero, suc, _+_, _-_, _*_, _/_, _^_, _≤_, _<_}
+use native.Mathlib.Decide.{decLt}
 use native.Mathlib.Omega.{arith}
 use lib.IntN.{pos, negsuc, _-ℤ_}
 use mir.Syntax.{w64}
@@ -23,7 +23,7 @@ below-zero (suc n) = ap negsuc (let e : suc (0 + n) ≡ suc n = omega arith in e
 
 module _ {d last : ℕ} (l : d ≤ last) (word : last < 2 ^ 64) where
   -- straight on
-  module _ (h : d ≤ last - d) where
+  module _ (h : d < last / 2 + 1) where
     ahead-low : d < 2 ^ 63
     ahead-low = omega arith
 
@@ -34,7 +34,7 @@ module _ {d last : ℕ} (l : d ≤ last) (word : last < 2 ^ 64) where
     straight = plain ahead-low ∙ sym ahead-is
 
   -- back round the period
-  module _ (h : last - d < d) where
+  module _ (h : last / 2 + 1 ≤ d) where
     back-low : last - d < 2 ^ 63
     back-low = omega arith
 
@@ -56,5 +56,5 @@ module _ {d last : ℕ} (l : d ≤ last) (word : last < 2 ^ 64) where
   -- either way it is a number of 64 bits with a sign
   pub signed-fits : SFits w64 (signedOf (last + 1) d)
   signed-fits =
-      by-cases (decLe d (last - d)) (λ h. rw (ahead-is h) (record { sfits = ahead-low h }))
-      (λ h. let b : last - d < d = omega arith in rw (back-is b) (record { sfits = back-low b }))
+      by-cases (decLt d (last / 2 + 1)) (λ h. rw (ahead-is h) (record { sfits = ahead-low h }))
+      (λ h. let b : last / 2 + 1 ≤ d = omega arith in rw (back-is b) (record { sfits = back-low b }))

@@ -17,9 +17,13 @@ use Rattle.orbits.specs.declared.kinds.Sighting.{Sighting}
 use Rattle.orbits.specs.declared.kinds.Sighting.the-variants as sighting
 use Rattle.orbits.specs.Orbit.{IsCycle}
 
--- After 3 and 4, 7: the multiplier is even.
+-- 7: the multiplier is even.
+unfoldable pub oddRefusal : Generator → ℕ
+oddRefusal g = cond (eqb (g .multiplier % 2) 0) 7 0
+
+-- 3 and 4, and after them 7.
 unfoldable pub gapRefusal : Generator → ℕ
-gapRefusal g = orElse (refusalOf g) (cond (eqb (g .multiplier % 2) 0) 7 0)
+gapRefusal g = orElse (refusalOf g) (oddRefusal g)
 
 -- The period that the definition of the orbit finds.
 unfoldable pub period : Generator → ℕ

@@ -4,11 +4,12 @@ ghost use mathlib.Core.Path.{_≡_};
 ghost use Rattle.generator.specs.Refusals.{checkNumber};
 ghost use Rattle.orbits.specs.Orbit.{OrbitPromise, orbitOf};
 ghost use Rattle.orbits.specs.Index.{IndexPromise, replyOf};
-ghost use Rattle.orbits.specs.Gap.{GapPromise, gapRefusal, gapOf};
+ghost use Rattle.orbits.specs.Gap.{GapPromise, oddRefusal, gapRefusal, gapOf};
 use generator::Check;
 use generator::Generator;
 use generator::Refusal;
 use generator::checked;
+use generator::checks::or_else;
 use kinds::Position;
 use kinds::Sighting;
 
@@ -94,18 +95,23 @@ pub fn index(g: Generator, value: u64) -> IndexAnswer
     }
 }
 
-// The conditions of the gap call.
-fn gap_checked(g: Generator) -> Check
-    ensures { λ r. ⌜ checkNumber r ≡ gapRefusal g ⌝ }
+// The condition of the calls that need an odd multiplier.
+fn odd_checked(g: Generator) -> Check
+    ensures { λ r. ⌜ checkNumber r ≡ oddRefusal g ⌝ }
 {
-    let verdict = checked(g);
-    if let Check::Refused(_) = verdict {
-        return verdict;
-    }
     if g.multiplier % 2 == 0 {
         return Check::Refused(Refusal::NotInvertible);
     }
     Check::Accepted
+}
+
+// The conditions of the gap call.
+fn gap_checked(g: Generator) -> Check
+    ensures { λ r. ⌜ checkNumber r ≡ gapRefusal g ⌝ }
+{
+    let general = checked(g);
+    let parity = odd_checked(g);
+    or_else(general, parity)
 }
 
 // The steps from one number to another, back where they are negative, or never.
@@ -121,9 +127,11 @@ pub fn gap(g: Generator, from: u64, to: u64) -> GapAnswer
         return GapAnswer::Never;
     };
     let second = kinds::sighting_of(g, to);
-    let Sighting::At { index: j, last: _ } = second else {
-        return GapAnswer::Never;
-    };
-    let d = turns::ahead(i, j, last);
-    GapAnswer::Steps(turns::signed(d, last))
+    match second {
+        Sighting::At { index: j, last: _ } => {
+            let d = turns::ahead(i, j, last);
+            GapAnswer::Steps(turns::signed(d, last))
+        }
+        Sighting::Never => GapAnswer::Never,
+    }
 }

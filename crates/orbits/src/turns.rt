@@ -14,15 +14,15 @@ pub fn ahead(i: u64, j: u64, last: u64) -> u64
     last - (i - j) + 1
 }
 
-// d steps ahead as the signed count: as many, or back what is left of the period of last + 1. Twice the shorter way is at
-// most the period, so that either fits.
+// d steps ahead as the signed count: as many in the first half of the period of last + 1, else back what is left of it. The
+// way taken is never longer than half the period, so that either fits.
 pub fn signed(d: u64, last: u64) -> i64
     requires { ⌜ d ≤ last ⌝ }
     ensures { λ r. ⌜ r ≡ signedOf (last + 1) d ⌝ }
 {
-    let back = last - d;
-    if d <= back {
+    let half = last / 2 + 1;
+    if d < half {
         return d as i64;
     }
-    -1 - (back as i64)
+    -1 - ((last - d) as i64)
 }

@@ -48,14 +48,6 @@ sighting-of-requires-2 c κs = gap-accepted _ (accepted (c .before .before .befo
 enum-known-second : tie.Need-enum-known-second
 enum-known-second c = search needs
 
-enum-told-3 : tie.Need-enum-told-3
-enum-told-3 c = search needs
-
-returns-3 : tie.Need-returns-3
-returns-3 c =
-    let at = c .before .before in
-    gap-missing _ _ _ (accepted (at .before .before .before .before .before)) (inr (subst (SightingIs _ _) (c .enum-told3 .given .1) (at .sighting-of2 .ensures)))
-
 -- where the two numbers stand, with one period
 first-at : (c : tie.After-known-told2) →
     let at = c .before .first .given .0 in
@@ -80,12 +72,21 @@ ahead-requires c κs =
 signed-requires : tie.Need-signed-requires
 signed-requires c κs = search needs
 
-returns-4 : tie.Need-returns-4
-returns-4 c =
+enum-told-3 : tie.Need-enum-told-3
+enum-told-3 c = search needs
+
+returns-3 : tie.Need-returns-3
+returns-3 c =
     let a = c .before in
     let f = a .before .before .before .before .before in
     gap-counted _ _ _ (accepted (f .before .before .before .before)) (first-at f) (second-at (a .before)) (a .ahead .ensures)
     (c .signed .ensures)
+
+returns-4 : tie.Need-returns-4
+returns-4 c =
+    let at = c .before .before in
+    gap-missing _ _ _ (accepted (at .before .before .before .before .before))
+    (inr (subst (SightingIs _ _) (c .enum-told3 .given .1) (at .sighting-of2 .ensures)))
 
 pub gap-spec : {M : Type 1} → statement M
 gap-spec =
@@ -101,8 +102,8 @@ gap-spec =
     returns-2
     sighting-of-requires-2
     enum-known-second
-    enum-told-3
-    returns-3
     ahead-requires
     signed-requires
+    enum-told-3
+    returns-3
     returns-4)

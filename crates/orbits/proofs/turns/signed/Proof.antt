@@ -7,8 +7,8 @@ use Rattle.orbits.proofs.SignedCounts.{straight, back, back-fits}
 use Rattle.orbits.proofs.turns.signed.Statement.{statement}
 use Rattle.orbits.proofs.turns.signed.Tie as tie
 
-sub-back : tie.Need-sub-back
-sub-back c = search needs
+add-half : tie.Need-add-half
+add-half c = search needs
 
 cast-result : tie.Need-cast-result
 cast-result c = search needs
@@ -16,11 +16,14 @@ cast-result c = search needs
 returns : tie.Need-returns
 returns c = let s = c .before in straight (s .pre) (s .fits .last .fits) (c .if1 .taken)
 
+sub-result : tie.Need-sub-result
+sub-result c = search needs
+
 cast-result-2 : tie.Need-cast-result-2
 cast-result-2 c = search needs
 
-sub-result : tie.Need-sub-result
-sub-result c = let s = c .before in back-fits (s .pre) (s .fits .last .fits) (c .if1 .left)
+sub-result-2 : tie.Need-sub-result-2
+sub-result-2 c = let s = c .before in back-fits (s .pre) (s .fits .last .fits) (c .if1 .left)
 
 returns-2 : tie.Need-returns-2
 returns-2 c =
@@ -29,4 +32,6 @@ returns-2 c =
     toZ-ofZ w64 _ (back-fits (s .pre) l (c .if1 .left)) ∙ back (s .pre) l (c .if1 .left)
 
 pub signed-spec : {M : Type 1} → statement M
-signed-spec = tie.close (tie.spec sub-back cast-result returns cast-result-2 sub-result returns-2)
+signed-spec =
+    tie.close
+    (tie.spec add-half cast-result returns sub-result cast-result-2 sub-result-2 returns-2)

@@ -7,7 +7,7 @@ use native.Mathlib.Decide.{decLt}
 use native.Mathlib.Omega.{arith}
 use lib.IntN.{pos, negsuc, _-ℤ_}
 use mir.Syntax.{w64}
-use mir.Val.{SFits, toZ}
+use mir.Val.{SFits, toZ, ofZ}
 use mir.ValLaws.{toZ-ofZ}
 use Rattle.sequences.specs.Gap.{signedOf}
 use Rattle.sequences.proofs.Gaps.{signed-ahead, signed-back}
@@ -20,6 +20,12 @@ plain {n} h = toZ-ofZ w64 (pos n) (record { sfits = h })
 below-zero : (n : ℕ) → negsuc 0 -ℤ pos n ≡ negsuc n
 below-zero zero = refl
 below-zero (suc n) = ap negsuc (let e : suc (0 + n) ≡ suc n = omega arith in e)
+
+taken : {n : ℕ} → n < 2 ^ 63 → negsuc 0 -ℤ toZ w64 n ≡ negsuc n
+taken {n} h = rw (plain h) (below-zero n)
+
+pub taken-fits : (n : ℕ) → n < 2 ^ 63 → SFits w64 (negsuc 0 -ℤ toZ w64 n)
+taken-fits n h = rw (taken h) (record { sfits = h })
 
 module _ {d last : ℕ} (l : d ≤ last) (word : last < 2 ^ 64) where
   -- straight on
@@ -44,14 +50,8 @@ module _ {d last : ℕ} (l : d ≤ last) (word : last < 2 ^ 64) where
         let half : last + 1 ≤ 2 * d = omega arith in
         let e : last + 1 - suc d ≡ last - d = omega arith in signed-back below half ∙ ap negsuc e
 
-    taken : negsuc 0 -ℤ toZ w64 (last - d) ≡ negsuc (last - d)
-    taken = rw (plain back-low) (below-zero (last - d))
-
-    pub back-fits : SFits w64 (negsuc 0 -ℤ toZ w64 (last - d))
-    back-fits = rw taken (record { sfits = back-low })
-
-    pub back : negsuc 0 -ℤ toZ w64 (last - d) ≡ signedOf (last + 1) d
-    back = taken ∙ sym back-is
+    pub back : toZ w64 (ofZ w64 (negsuc 0 -ℤ toZ w64 (last - d))) ≡ signedOf (last + 1) d
+    back = toZ-ofZ w64 _ (taken-fits (last - d) back-low) ∙ taken back-low ∙ sym back-is
 
   -- either way it is a number of 64 bits with a sign
   pub signed-fits : SFits w64 (signedOf (last + 1) d)

@@ -1,9 +1,8 @@
 -- `orbits::turns::signed` meets its contract.
 use borrow.Author.Needs.{needs}
-use mathlib.Core.Path.{_∙_}
-use mir.Syntax.{w64}
-use mir.ValLaws.{toZ-ofZ}
-use Rattle.orbits.proofs.SignedCounts.{straight, back, back-fits}
+use Prim.Native.Nat.{_-_}
+use native.Mathlib.Omega.{arith}
+use Rattle.orbits.proofs.SignedCounts.{straight, taken-fits, back}
 use Rattle.orbits.proofs.turns.signed.Statement.{statement}
 use Rattle.orbits.proofs.turns.signed.Tie as tie
 
@@ -14,7 +13,7 @@ cast-result : tie.Need-cast-result
 cast-result c = search needs
 
 returns : tie.Need-returns
-returns c = let s = c .before in straight (s .pre) (s .fits .last .fits) (c .if1 .taken)
+returns c = let s = c .before in straight (s .pre) (s .fits .last .fits) (omega (arith, c .if1 .taken))
 
 sub-result : tie.Need-sub-result
 sub-result c = search needs
@@ -23,13 +22,12 @@ cast-result-2 : tie.Need-cast-result-2
 cast-result-2 c = search needs
 
 sub-result-2 : tie.Need-sub-result-2
-sub-result-2 c = let s = c .before in back-fits (s .pre) (s .fits .last .fits) (c .if1 .left)
+sub-result-2 c =
+    let s = c .before in
+    taken-fits (s .args .last - s .args .d) (omega (arith, s .fits .last .fits, c .if1 .left))
 
 returns-2 : tie.Need-returns-2
-returns-2 c =
-    let s = c .before in
-    let l = s .fits .last .fits in
-    toZ-ofZ w64 _ (back-fits (s .pre) l (c .if1 .left)) ∙ back (s .pre) l (c .if1 .left)
+returns-2 c = let s = c .before in back (s .pre) (s .fits .last .fits) (omega (arith, c .if1 .left))
 
 pub signed-spec : {M : Type 1} → statement M
 signed-spec =

@@ -114,7 +114,8 @@ fn gap_checked(g: Generator) -> Check
     or_else(general, parity)
 }
 
-// The steps from one number to another, back where they are negative, or never.
+// The steps from one number to another, back where they are negative, or never. Either search finds the period; taken from the
+// second, it needs no register during that.
 pub fn gap(g: Generator, from: u64, to: u64) -> GapAnswer
     ensures { λ r. ⌜ GapPromise g from to (gapOf r) ⌝ }
 {
@@ -123,12 +124,12 @@ pub fn gap(g: Generator, from: u64, to: u64) -> GapAnswer
         return GapAnswer::Refused(refusal);
     }
     let first = kinds::sighting_of(g, from);
-    let Sighting::At { index: i, last } = first else {
+    let Sighting::At { index: i, last: _ } = first else {
         return GapAnswer::Never;
     };
     let second = kinds::sighting_of(g, to);
     match second {
-        Sighting::At { index: j, last: _ } => {
+        Sighting::At { index: j, last } => {
             let d = turns::ahead(i, j, last);
             GapAnswer::Steps(turns::signed(d, last))
         }

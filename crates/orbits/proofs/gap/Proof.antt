@@ -49,25 +49,23 @@ enum-known-second : tie.Need-enum-known-second
 enum-known-second c = search needs
 
 -- where the two numbers stand, with one period
-first-at : (c : tie.After-known-told2) →
-    let at = c .before .first .given .0 in
-    let a = c .before .before .before .before .before .before .before .args in
-    SightingIs (a .g) (a .from) (sighting.At (at .0) (at .1 .0))
-first-at c =
-    let f = c .before in subst (SightingIs _ _) (f .first .given .1) (f .before .before .sighting-of .ensures)
-
 second-at : (c : tie.After-known-told3) →
-    let f = c .before .before .before .before in
-    let a = f .before .before .before .before .before .before .before .args in
-    SightingIs (a .g) (a .to) (sighting.At (c .before .second .given .0 .0) (f .before .first .given .0 .1 .0))
+    let at = c .before .second .given .0 in
+    let a = c .before .before .before .before .before .before .before .before .before .before .before .args in
+    SightingIs (a .g) (a .to) (sighting.At (at .0) (at .1 .0))
 second-at c =
-    let s = c .before in
-    same-cycle (first-at (s .before .before .before) .1)
-    (subst (SightingIs _ _) (s .second .given .1) (s .before .before .sighting-of2 .ensures))
+    let s = c .before in subst (SightingIs _ _) (s .second .given .1) (s .before .before .sighting-of2 .ensures)
+
+first-at : (c : tie.After-known-told3) →
+    let f = c .before .before .before .before .before in
+    let a = f .before .before .before .before .before .before .args in
+    SightingIs (a .g) (a .from) (sighting.At (f .first .given .0 .0) (c .before .second .given .0 .1 .0))
+first-at c =
+    let f = c .before .before .before .before .before in
+    same-cycle (second-at c .1) (subst (SightingIs _ _) (f .first .given .1) (f .before .before .sighting-of .ensures))
 
 ahead-requires : tie.Need-ahead-requires
-ahead-requires c κs =
-    omega (arith, first-at (c .before .before .before .before) .0 .below, second-at c .0 .below)
+ahead-requires c κs = omega (arith, first-at c .0 .below, second-at c .0 .below)
 
 signed-requires : tie.Need-signed-requires
 signed-requires c κs = search needs
@@ -78,9 +76,9 @@ enum-told-3 c = search needs
 returns-3 : tie.Need-returns-3
 returns-3 c =
     let a = c .before in
-    let f = a .before .before .before .before .before in
-    gap-counted _ _ _ (accepted (f .before .before .before .before)) (first-at f) (second-at (a .before)) (a .ahead .ensures)
-    (c .signed .ensures)
+    let at = a .before in
+    gap-counted _ _ _ (accepted (at .before .before .before .before .before .before .before .before)) (first-at at) (second-at at)
+    (a .ahead .ensures) (c .signed .ensures)
 
 returns-4 : tie.Need-returns-4
 returns-4 c =

@@ -1,4 +1,4 @@
--- The definition of the gap, computed.
+-- The definition of the gap and what it means, computed.
 use mathlib.Core.Path.{_≡_, refl}
 use mathlib.Core.Bool.{Bool, true, false, _&&_}
 use mathlib.Core.List.{[], _∷_, map}
@@ -7,7 +7,7 @@ use lib.IntN.{ℤ, pos, negsuc}
 use Rattle.sequences.specs.Least.{least}
 use Rattle.sequences.specs.Index.{indexOf}
 use Rattle.sequences.specs.Orbit.{returnOf, preperiodOf, periodOf}
-use Rattle.sequences.specs.Gap.{occurs, aheadOf, stepsOf}
+use Rattle.sequences.specs.Gap.{occurs, aheadOf, stepsOf, stepped, Leads, InRange}
 use Rattle.generator.specs.declared.Generator.{Generator}
 use Rattle.generator.specs.Recurrence.{modulus, step, element}
 use Rattle.generator.specs.Refusals.{refusalOf}
@@ -62,3 +62,15 @@ refusals = refl
 even : reply (gen 4 2 0 1) 16 99 ≡ refused 7
 unfolding gapRefusal oddRefusal refusalOf modulus
 even = refl
+
+-- three steps from 8 give 5, and so −3 leads from 5 to 8
+leads : Leads (step (gen 4 5 3 1)) 8 5 (pos 3) × Leads (step (gen 4 5 3 1)) 5 8 (negsuc 2)
+unfolding stepped step modulus
+leads = (refl, refl)
+
+-- of the two halves of a period of 16 the range has −8 alone
+lowest : InRange 16 (negsuc 7)
+lowest = record { not-below = record { le = tt }; not-beyond = record { lt = tt } }
+
+too-far : InRange 16 (pos 8) → ⊥
+too-far r = r .not-beyond .lt

@@ -1,5 +1,6 @@
 -- The signed number of steps from one number to another, in a sequence that goes round with any period P (document 02, note 1;
 -- SCOPE 3.7). The definition searches below P; the record says what it finds in the note's words, by steps from the numbers.
+-- The integers are the kit's: `pos n` is n, and `negsuc n` is −(n + 1).
 use mathlib.Core.Path.{_≡_}
 use mathlib.Core.Bool.{Bool, cond}
 use mathlib.Core.Logic.{_↔_, _⊎_}

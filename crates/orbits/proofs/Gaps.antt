@@ -1,34 +1,33 @@
 -- The gap of two numbers of a generator. The search that finds a number's index has found the period on its way; the rest
 -- is said of any sequence and any period in `sequences`.
-use mathlib.Core.Path.{_≡_, refl, sym, ap, subst, _∙_}
-use mathlib.Core.Bool.{Bool, true, false, cond, _&&_}
-use mathlib.Core.Logic.{_⊎_, inl, inr, ⊎-elim}
-use Prim.Native.Nat.{ℕ, zero, suc, _+_, _-_, _%_, _^_, _≤_, _<_}
+use mathlib.Core.Path.{_≡_, refl, subst}
+use mathlib.Core.Bool.{Bool, true, false, _&&_}
+use mathlib.Core.Logic.{_⊎_, ⊎-elim}
+use Prim.Native.Nat.{ℕ, _+_, _-_, _%_, _^_, _≤_, _<_}
 use native.Mathlib.Omega.{arith}
 use lib.Dec.{eqb}
-use lib.IntN.{ℤ, pos}
+use lib.IntN.{ℤ}
 use mir.Syntax.{w64}
 use mir.Val.{SFits, toZ, ofZ}
 use mir.ValLaws.{toZ-ofZ}
 use borrow.Author.Tests.{eqb-false}
-use Rattle.words.proofs.Congruence.{mod-two, from-multiples}
+use Rattle.words.proofs.Congruence.{mod-two}
 use Rattle.sequences.specs.Index.{Located, Absent}
 use Rattle.sequences.specs.Orbit.{IsOrbit}
 use Rattle.sequences.specs.Places.{Settles}
-use Rattle.sequences.specs.Gap.{occurs, stepsOf, signedOf, Between, Ahead}
+use Rattle.sequences.specs.Gap.{occurs, signedOf, Ahead}
 use Rattle.sequences.proofs.Orbits.{period-is}
 use Rattle.sequences.proofs.Search.{settles-found, settles-orbit}
 use Rattle.sequences.proofs.Gaps.{Steps, located-occurs, absent-missing, gap-is, gap-found, gap-never}
 use Rattle.generator.specs.declared.Generator.{Generator}
 use Rattle.generator.specs.declared.Refusal.{Refusal}
-use Rattle.generator.specs.Recurrence.{modulus, step, element}
+use Rattle.generator.specs.Recurrence.{step, element}
 use Rattle.generator.specs.Refusals.{numberOf, refusalOf}
 use Rattle.generator.specs.Affine.{Linear}
 use Rattle.generator.proofs.Refusals.{cond-none, or-else-none, modulus-word, linear}
 use Rattle.generator.proofs.Elements.{element-next}
 use Rattle.generator.proofs.Replies.{number-suc, number-nonzero}
 use Rattle.orbits.specs.declared.GapAnswer.the-variants as answer
-use Rattle.orbits.specs.declared.kinds.Cycle.{Cycle}
 use Rattle.orbits.specs.declared.kinds.Sighting.the-variants as sighting
 use Rattle.orbits.specs.Orbit.{IsCycle}
 use Rattle.orbits.specs.Gap.{oddRefusal, gapRefusal, period, gapOf, GapPromise, SightingIs}

@@ -2,19 +2,28 @@
 -- Let i and j be their indices. A count leads from one number to the other exactly when it leads from i to j modulo P, since
 -- elements are equal exactly at indices that are congruent modulo P. Two such counts differ by a multiple of P, and the range
 -- −P ≤ 2d < P has no room for two of them; that it has room for one is the choice between d and d − P.
-use mathlib.Core.Path.{_≡_, refl, sym, ap, subst, _∙_}
-use mathlib.Core.Bool.{Bool, true, false, cond}
-use mathlib.Core.Logic.{_↔_, _⊎_, inl, inr, ⊎-elim, by-cases}
+use mathlib.Core.Path.{_≡_, refl, sym, ap, _∙_}
+use mathlib.Core.Bool.{true, false}
+use mathlib.Core.Logic.{_⊎_, inl, inr, ⊎-elim, by-cases}
 use Prim.Native.Nat.{ℕ, zero, suc, _+_, _-_, _*_, _≤_, _<_}
 use native.Mathlib.Nat.{add-zero, add-suc, le-refl, le-of-lt}
 use native.Mathlib.Decide.{decLe, decLt}
 use native.Mathlib.Omega.{arith}
-use lib.Dec.{T, eqb, ltb, leb, ltb→lt, lt→ltb, leb→le, le→leb}
-use lib.IntN.{ℤ, pos, negsuc, negℤ, _-ℤ_, _*ℤ_}
-use lib.Signed.{_≤ℤ_, _<ℤ_}
+use lib.Dec.{T, ltb, leb, ltb→lt, lt→ltb, leb→le, le→leb}
+use lib.IntN.{ℤ, pos, negsuc, negℤ, _*ℤ_}
 use borrow.Author.Tests.{eq-eqb, ne-eqb, lt-ltb, le-ltb}
-use Rattle.words.proofs.Congruence.{Congruent, from-multiples, to-multiples, same-refl, same-sym, same-trans, same-add, same-add-cancel, same-below, same-regroup}
-use Rattle.sequences.specs.Index.{indexOf, Located, Absent}
+use Rattle.words.proofs.Congruence.{
+  Congruent,
+  from-multiples,
+  same-refl,
+  same-sym,
+  same-trans,
+  same-regroup,
+  same-add,
+  same-add-cancel,
+  same-below,
+}
+use Rattle.sequences.specs.Index.{Located, Absent}
 use Rattle.sequences.specs.Orbit.{IsOrbit}
 use Rattle.sequences.specs.Gap.{occurs, aheadOf, signedOf, stepsOf, stepped, Leads, InRange, Between, Ahead}
 use Rattle.sequences.proofs.Least.{least-unique}
@@ -67,7 +76,7 @@ abbrev Turns : ℕ → ℕ → ℕ → ℤ → Type 0
 Turns P i j (pos d) = Congruent P (i + d) j
 Turns P i j (negsuc d) = Congruent P (j + suc d) i
 
--- that are there and back again: at least P steps, if any
+-- there and back again is at least P steps, if any
 there-and-back : {P i j : ℕ} (d e : ℕ) → Congruent P (i + d) j → Congruent P (j + e) i → 1 ≤ d + e → P ≤ d + e
 there-and-back {P} {i} {j} d e h k l =
     congruent-gap {u = i} (same-regroup (same-trans (same-add h (same-refl P e)) k) (omega arith) refl) l

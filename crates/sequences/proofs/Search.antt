@@ -16,7 +16,16 @@ use lib.Pow.{pow-pos, pow-lt, pow-mono}
 use borrow.Author.Tests.{eqb-true, eqb-false}
 use Rattle.words.specs.Alpha.{Alpha}
 use Rattle.words.specs.Masks.{Meets, Widens}
-use Rattle.words.proofs.Congruence.{Congruent, same-refl, same-of-eq, same-regroup, same-add, same-add-cancel, same-result, same-lower}
+use Rattle.words.proofs.Congruence.{
+  Congruent,
+  same-refl,
+  same-of-eq,
+  same-regroup,
+  same-add,
+  same-add-cancel,
+  same-result,
+  same-lower,
+}
 use Rattle.words.proofs.Places.{alpha-below, alpha-above, above-agree, above-zero}
 use Rattle.sequences.specs.Index.{Located, Absent}
 use Rattle.sequences.specs.Orbit.{IsOrbit}

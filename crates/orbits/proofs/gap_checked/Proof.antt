@@ -1,7 +1,5 @@
 -- `orbits::gap_checked` meets its contract: both checks, in the table's order.
 use borrow.Author.Needs.{needs}
-use mathlib.Core.Path.{_≡_, _∙_}
-use Rattle.generator.specs.Refusals.{orElse}
 use Rattle.orbits.specs.Gap.{gapRefusal}
 use Rattle.orbits.proofs.gap_checked.Statement.{statement}
 use Rattle.orbits.proofs.gap_checked.Tie as tie

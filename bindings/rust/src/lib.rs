@@ -99,7 +99,7 @@ pub enum Index {
 /// How many steps lead from one number of a sequence to another.
 #[derive(Clone, Copy, Debug, PartialEq, Eq, Hash)]
 pub enum Gap {
-    /// So many, backward if negative: the only count d with −P ≤ 2 d < P, P the period.
+    /// So many, backward if negative: the only count d with −P ≤ 2 d < P, P the period, that leads there.
     Steps(i64),
     /// One of the numbers is at no index, however large.
     Never,
@@ -165,7 +165,7 @@ pub fn index(g: Generator, value: u64) -> Result<Index, Refusal> {
 }
 
 /// The steps that lead from one number of the sequence to another, or never if either of them is at
-/// no index. Half the period is negative. The multiplier must be odd, whatever the numbers are.
+/// no index. Half the period is negative. An even multiplier is refused, whatever the numbers are.
 ///
 /// ```
 /// use noonpasture::{gap, Gap, Generator, Refusal};

@@ -1,5 +1,5 @@
--- The signed count of d steps ahead round a period of last + 1, in a 64-bit machine. The way taken is the shorter one, so that
--- it is below 2 ^ 63; back it is one step more than the number that is taken from −1.
+-- The signed count of d steps ahead round a period of last + 1, in a 64-bit machine. The way taken is at most half the period:
+-- ahead it is below 2 ^ 63, and back it is one more than the number taken from −1, which is below 2 ^ 63 too.
 use mathlib.Core.Path.{_≡_, refl, sym, ap, _∙_}
 use mathlib.Core.Logic.{by-cases}
 use Prim.Native.Nat.{ℕ, zero, suc, _+_, _-_, _*_, _/_, _^_, _≤_, _<_}

@@ -1,5 +1,5 @@
-// The orbit of a generator, the least index of a number and the steps between two numbers, for every generator, without
-// stepping.
+// The orbit of a generator and the least index of a number, for every generator, and for odd multipliers the steps between two
+// numbers, without stepping.
 ghost use mathlib.Core.Path.{_≡_};
 ghost use Rattle.generator.specs.Refusals.{checkNumber};
 ghost use Rattle.orbits.specs.Orbit.{OrbitPromise, orbitOf};
@@ -95,7 +95,7 @@ pub fn index(g: Generator, value: u64) -> IndexAnswer
     }
 }
 
-// The condition of the calls that need an odd multiplier.
+// The condition of the gap call beside those of a generator.
 fn odd_checked(g: Generator) -> Check
     ensures { λ r. ⌜ checkNumber r ≡ oddRefusal g ⌝ }
 {
@@ -114,8 +114,8 @@ fn gap_checked(g: Generator) -> Check
     or_else(general, parity)
 }
 
-// The steps from one number to another, back where they are negative, or never. Either search finds the period; taken from the
-// second, it needs no register during that.
+// The steps from one number to another, back where they are negative, or never. Both searches find the period; it is taken from
+// the second, so that it need not be kept during that.
 pub fn gap(g: Generator, from: u64, to: u64) -> GapAnswer
     ensures { λ r. ⌜ GapPromise g from to (gapOf r) ⌝ }
 {

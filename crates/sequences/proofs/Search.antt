@@ -312,22 +312,22 @@ module _ {n : ℕ} {x : ℕ → ℕ} {y p k e : ℕ} (s : Settles x y n p k e) w
 
     -- the orbit, whatever number was sought: x is back at x 0 after i steps exactly when it is back at x k, and so at y
     pub settles-orbit : Isometric n x → Reduced n x → (e ≤ n) × IsOrbit x 0 (2 ^ e)
-    settles-orbit iso red = (
-      le-trans (s .exponent-within) (s .within),
-      return-orbit (pow-pos e) λ i. (
-        λ q.
-            same-add-cancel {a = i} {b = 0}
-            (same-regroup (exactly (k + i) .0 (agree-trans (shift iso n k i 0 (le-refl n) .0 (agree-of-eq n q)) back)) (omega arith) (omega arith))
-            (same-refl (2 ^ e) k),
-        λ c.
-            reduced-eq red i 0
-            (shift iso n k i 0 (le-refl n) .1
-            (agree-trans (exactly (k + i) .1 (same-regroup (same-add c (same-refl (2 ^ e) k)) (omega arith) (omega arith))) (agree-sym back))),
-      ),
-    )
+    settles-orbit iso red =
+        (le-trans (s .exponent-within) (s .within), return-orbit (pow-pos e) (λ i. (there i, again i)))
       where
-        back : Agree n (x (k + 0)) y
-        back = exactly (k + 0) .1 (same-of-eq (2 ^ e) (add-zero k))
+        at-k : Agree n (x (k + 0)) y
+        at-k = exactly (k + 0) .1 (same-of-eq (2 ^ e) (add-zero k))
+
+        there : (i : ℕ) → x i ≡ x 0 → Congruent (2 ^ e) i 0
+        there i q =
+            let a = agree-trans (shift iso n k i 0 (le-refl n) .0 (agree-of-eq n q)) at-k in
+            let c : Congruent (2 ^ e) (i + k) (0 + k) = same-regroup (exactly (k + i) .0 a) (omega arith) (omega arith) in
+            same-add-cancel c (same-refl (2 ^ e) k)
+
+        again : (i : ℕ) → Congruent (2 ^ e) i 0 → x i ≡ x 0
+        again i c =
+            let a = exactly (k + i) .1 (same-regroup (same-add c (same-refl (2 ^ e) k)) (omega arith) (omega arith)) in
+            reduced-eq red i 0 (shift iso n k i 0 (le-refl n) .1 (agree-trans a (agree-sym at-k)))
 
 -- all places are settled where the first element itself was sought
 pub settles-first : {n : ℕ} {x : ℕ → ℕ} {y p k e : ℕ} → x 0 ≡ y → Settles x y n p k e → n ≤ p

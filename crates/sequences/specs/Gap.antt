@@ -17,7 +17,7 @@ use Rattle.sequences.specs.Orbit.{IsOrbit}
 unfoldable pub occurs : (ℕ → ℕ) → ℕ → ℕ → Bool
 occurs x P y = ltb (indexOf x P y) P
 
--- The least d for which x yields `to` d indices after the first one of `from`; P if there is none below it.
+-- The least d for which x yields `to` d indices after the first index of `from`; P if there is none below it.
 unfoldable pub aheadOf : (ℕ → ℕ) → ℕ → ℕ → ℕ → ℕ
 aheadOf x P from to = least (λ d. eqb (x (indexOf x P from + d)) to) P
 

@@ -62,7 +62,7 @@ fn gap(n: &[u64]) -> Reply {
     Reply::Four(r.refusal, r.found, 0, size(steps))
 }
 
-// A number without its sign. That of the least one fits no signed number, so 1 is added behind the cast.
+// A number without its sign. −2^63 without it fits no i64, so 1 is added after the cast.
 fn size(steps: i64) -> u64
     ensures { λ r. ⌜ r ≡ natAbs steps ⌝ }
 {

@@ -322,7 +322,7 @@ const PERIODS: [(u64, [u64; 4]); 12] = [
     (64, [64, 6_364_136_223_846_793_005, 1_442_695_040_888_963_407, 0]),
 ];
 
-/// Between elements at the start, the half and the end of the period, and numbers near them.
+/// Between elements about the start, a quarter, the half and the end of the period, and numbers near them.
 fn chosen_periods() -> Tally {
     let mut tally = Tally::default();
     for (exponent, [width, multiplier, increment, seed]) in PERIODS {

@@ -35,9 +35,9 @@ fn growth(factor: u64, square: u64, ahead: bool) -> u64
 
 // Goes up at most `limit` bit places, as long as an element agrees with y in them. With m places settled k is the least
 // index whose element agrees with y in them, `away` what that element is above y, 2^e the period in them, `period` that
-// number modulo 2^64, `gap` (of two elements, and not the call's) what the element one period on is above that at k, `factor` what a period multiplies differences
-// by, and `mask` that of m + 1 places. At the next place the period stays or doubles, by α of the gap, and the element at k
-// agrees with y or differs: if the period stays and it differs, no index agrees there.
+// number modulo 2^64, `gap` (of two elements, not the call's) what the element one period on is above that at k, `factor`
+// what a period multiplies differences by, and `mask` that of m + 1 places. At the next place the period stays or doubles, by
+// α of the gap, and the element at k agrees with y or differs: if the period stays and it differs, no index agrees there.
 pub fn settle(g: Generator, y: u64, limit: u64) -> Settled
     requires { ⌜ (Linear g) × (Isometric (g .width) (element g)) × (limit ≤ g .width) ⌝ }
     ensures { λ r. ⌜ Settles (element g) y limit (r .places) (r .index) (r .exponent) ⌝ }

@@ -3,7 +3,9 @@ pub mod Refusals
 pub mod Replies
 pub mod Elements
 pub mod Walking
+pub mod Trace
 pub mod StepBack
 pub mod Table
 mod OddPowers
 mod Examples
+mod TraceExamples

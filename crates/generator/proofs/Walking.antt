@@ -1,7 +1,7 @@
 -- The map of i steps followed by that of j steps is the map of i + j steps, and the map of i steps takes the seed to
 -- element i: keeping the low bits at each step or once at the end comes to the same.
 use mathlib.Core.Path.{_≡_, refl, sym, ap, _∙_, subst}
-use Prim.Native.Nat.{ℕ, zero, suc, _+_, _*_, _/_, _%_, _^_}
+use Prim.Native.Nat.{ℕ, zero, suc, _+_, _*_, _%_, _^_}
 use native.Mathlib.Nat.{add-zero, add-suc, mod-eq-of-lt}
 use native.Mathlib.Omega.{arith}
 use Rattle.words.proofs.Congruence.{Congruent, same-refl, same-trans, same-regroup, same-result, same-add, same-scale, same-mul, same-lower}
@@ -69,22 +69,9 @@ pub walks-one : (a c : ℕ) → Walks a c 1 (record { factor = a; offset = c })
 unfolding iterate
 walks-one a c = record { walks = λ x. refl }
 
--- the map of i steps from that of half of i: twice, and one step more where i is odd
+-- the same number of steps
 pub walks-as : {a c i j : ℕ} {f : Affine} → i ≡ j → Walks a c i f → Walks a c j f
 walks-as {a} {c} {f = f} e w = subst (λ (k : ℕ). Walks a c k f) e w
-
-pub walks-even :
-    {a c : ℕ} (i : ℕ) {half r : Affine} → Walks a c (i / 2) half → Composes half half r → i % 2 ≡ 0 → Walks a c i r
-walks-even i w h even = walks-as (omega arith) (walks-add w w h)
-
-pub walks-odd :
-    {a c : ℕ} (i : ℕ) {half twice r : Affine} →
-    Walks a c (i / 2) half →
-    Composes half half twice →
-    Composes twice (record { factor = a; offset = c }) r →
-    (i % 2 ≡ 0 → ⊥) →
-    Walks a c i r
-walks-odd {a} {c} i w h k odd = walks-as (omega arith) (walks-add (walks-add w w h) (walks-one a c) k)
 
 -- one step of the linear kind
 pub step-linear : {g : Generator} → Linear g → (x : ℕ) → step g x ≡ (g .multiplier * x + g .increment) % 2 ^ g .width

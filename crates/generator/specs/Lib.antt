@@ -7,3 +7,4 @@ pub mod Predecessor
 pub mod Customary
 pub mod Kinds
 pub mod Affine
+pub mod Trace

@@ -1,9 +1,10 @@
-// The linear kind: the map of i steps, made from the map of half of i, and what rests on it.
+// The linear kind: the map of i steps, made from the lowest bit of i up, and what rests on it.
 ghost use mathlib.Core.Path.{_≡_};
 ghost use Prim.Native.Nat.{_+_, _%_, _^_, _<_};
 ghost use Rattle.generator.specs.Recurrence.{element, step};
 ghost use Rattle.generator.specs.Predecessor.{OnlyPredecessor};
 ghost use Rattle.generator.specs.Affine.{Linear, Walks, Composes, apply, onceOf};
+ghost use Rattle.generator.specs.Trace.{progressOf, askedOf, Rounded, Rounds, Finishes};
 use crate::Generator;
 use std::num::wrapping_add_u64;
 use std::num::wrapping_sub_u64;
@@ -43,26 +44,76 @@ pub fn compose(first: Affine, second: Affine) -> Affine
     Affine { factor, offset }
 }
 
-// The map of i steps of "times a, plus c": twice that of half of i, and one step more where i is odd.
-pub fn jump(a: u64, c: u64, i: u64) -> Affine
-    ensures { λ r. ⌜ Walks a c i r ⌝ }
+// A jump under way: the stride, which is the map of 1, 2, 4, .. steps (document 02: the step in hand), the map of the steps
+// done, and the index left.
+pub struct Progress {
+    pub stride: Affine,
+    pub done: Affine,
+    pub left: u64,
+}
+
+// What the lowest bit of the index left asks for: the stride, or no step. The map is chosen and not the product, so that the
+// choice is off the chain of products and compiles without a branch.
+fn asked(p: Progress) -> Affine
+    ensures { λ r. ⌜ r ≡ askedOf p ⌝ }
 {
-    if i == 0 {
+    if p.left % 2 == 0 {
         return Affine {
             factor: 1,
             offset: 0,
         };
     }
-    let half = jump(a, c, i / 2);
-    let twice = compose(half, half);
-    if i % 2 == 0 {
-        return twice;
+    p.stride
+}
+
+// One round: does what the lowest bit asks for, doubles the stride and goes on with half the index.
+pub fn round(p: Progress) -> Progress
+    ensures { λ r. ⌜ Rounded p r ⌝ }
+{
+    let stride = p.stride;
+    let done = compose(p.done, asked(p));
+    let twice = compose(stride, stride);
+    Progress {
+        stride: twice,
+        done,
+        left: p.left / 2,
     }
-    let once = Affine {
+}
+
+fn four_rounds(p: Progress) -> Progress
+    ensures { λ r. ⌜ Rounds 4 p r ⌝ }
+{
+    round(round(round(round(p))))
+}
+
+// The map of all steps of a jump under way, by eight rounds a call down to index 0; rounds at index 0 change nothing. The
+// numbers go to the next call in registers, where a struct would go through memory.
+fn finish(a: u64, c: u64, factor: u64, offset: u64, left: u64) -> Affine
+    ensures { λ r. ⌜ Finishes (progressOf a c factor offset left) r ⌝ }
+{
+    let done = Affine { factor, offset };
+    if left == 0 {
+        return done;
+    }
+    let stride = Affine {
         factor: a,
         offset: c,
     };
-    compose(twice, once)
+    let p = four_rounds(four_rounds(Progress { stride, done, left }));
+    finish(
+        p.stride.factor,
+        p.stride.offset,
+        p.done.factor,
+        p.done.offset,
+        p.left,
+    )
+}
+
+// The map of i steps of "times a, plus c".
+pub fn jump(a: u64, c: u64, i: u64) -> Affine
+    ensures { λ r. ⌜ Walks a c i r ⌝ }
+{
+    finish(a, c, 1, 0, i)
 }
 
 // Element i of an accepted generator.

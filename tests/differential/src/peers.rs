@@ -8,7 +8,8 @@
 //!   the state, and takes 1, 2, 4, .. steps where the state differs from the number sought in a bit.
 //!   Every such stride changes its bit in a generator of full period, so this needs no other test.
 //!
-//! Both take plain numbers, as there, and refuse nothing.
+//! Both take plain numbers, as there, and refuse nothing. Compilers differ in where they make branches
+//! of the bits, and pcg-cpp is mostly built by g++: so both are here once more, as g++ builds them.
 
 /// Multiplier and increment of twice as many steps.
 fn doubled(multiplier: u64, increment: u64) -> (u64, u64) {
@@ -46,6 +47,24 @@ pub fn distance(mut multiplier: u64, mut increment: u64, mut state: u64, number:
     index
 }
 
+/// The same, built by g++ (`peers.cc`).
+pub mod gpp {
+    extern "C" {
+        fn peer_advance(multiplier: u64, increment: u64, seed: u64, delta: u64) -> u64;
+        fn peer_distance(multiplier: u64, increment: u64, state: u64, number: u64) -> u64;
+    }
+
+    pub fn advance(multiplier: u64, increment: u64, seed: u64, delta: u64) -> u64 {
+        // Safety: numbers go in, a number comes out.
+        unsafe { peer_advance(multiplier, increment, seed, delta) }
+    }
+
+    pub fn distance(multiplier: u64, increment: u64, state: u64, number: u64) -> u64 {
+        // Safety: as above.
+        unsafe { peer_distance(multiplier, increment, state, number) }
+    }
+}
+
 #[cfg(test)]
 mod tests {
     use super::*;
@@ -59,8 +78,10 @@ mod tests {
         for _ in 0..10_000 {
             let g = samples::accepted_generator(&mut r, 64);
             for index in [0, 1, u64::MAX, samples::index(&mut r)] {
-                let advanced = advance(g.multiplier, g.increment, g.seed, index);
-                assert_eq!(advanced, model::element(g, index).value, "element {index} of {g:?}");
+                for advance in [advance, gpp::advance] {
+                    let advanced = advance(g.multiplier, g.increment, g.seed, index);
+                    assert_eq!(advanced, model::element(g, index).value, "element {index} of {g:?}");
+                }
             }
         }
     }
@@ -71,9 +92,11 @@ mod tests {
         for _ in 0..10_000 {
             let g = samples::full_period_generator(&mut r, 64);
             for number in [g.seed, 0, u64::MAX, r.word()] {
-                let index = distance(g.multiplier, g.increment, g.seed, number);
-                let found = IndexReply { refusal: 0, found: 1, index };
-                assert_eq!(found, model::index(g, number), "{number} in {g:?}");
+                for distance in [distance, gpp::distance] {
+                    let index = distance(g.multiplier, g.increment, g.seed, number);
+                    let found = IndexReply { refusal: 0, found: 1, index };
+                    assert_eq!(found, model::index(g, number), "{number} in {g:?}");
+                }
             }
         }
     }

@@ -1,5 +1,5 @@
-//! The library's own methods in plain Rust, to measure it against: jumps by halving the index, the
-//! search up the bit places, lines in one pass.
+//! The library's own methods in plain Rust, to measure it against: jumps from the lowest bit of the
+//! index up, the search up the bit places, lines in one pass.
 
 use crate::calls::*;
 
@@ -11,6 +11,8 @@ struct Map {
 }
 
 impl Map {
+    const NONE: Map = Map { factor: 1, summand: 0 };
+
     fn step(g: Generator) -> Map {
         Map { factor: g.multiplier, summand: g.increment }
     }
@@ -24,18 +26,37 @@ impl Map {
     }
 }
 
-/// The map of `count` steps, made from that of half as many.
+/// A jump under way: the map of 1, 2, 4, .. steps, that of the steps done, and the index left.
+#[derive(Clone, Copy)]
+struct Jump {
+    stride: Map,
+    done: Map,
+    left: u64,
+}
+
+impl Jump {
+    /// Does what the lowest bit asks for, doubles the stride and halves the index. At index 0 the map
+    /// done stays as it is.
+    fn round(self) -> Jump {
+        let asked = if self.left & 1 == 1 { self.stride } else { Map::NONE };
+        Jump { stride: self.stride.then(self.stride), done: self.done.then(asked), left: self.left / 2 }
+    }
+
+    fn four_rounds(self) -> Jump {
+        self.round().round().round().round()
+    }
+
+    fn finish(self) -> Map {
+        if self.left == 0 {
+            return self.done;
+        }
+        self.four_rounds().four_rounds().finish()
+    }
+}
+
+/// The map of `count` steps.
 fn steps(one: Map, count: u64) -> Map {
-    if count == 0 {
-        return Map { factor: 1, summand: 0 };
-    }
-    let half = steps(one, count / 2);
-    let even = half.then(half);
-    if count % 2 == 1 {
-        even.then(one)
-    } else {
-        even
-    }
+    Jump { stride: one, done: Map::NONE, left: count }.finish()
 }
 
 fn mask(width: u64) -> u64 {

@@ -100,6 +100,14 @@ fn wide_generator(r: &mut Random) -> Generator {
     full_period_generator(r, 64)
 }
 
+fn near_2_64(r: &mut Random) -> Vec<(Generator, u64)> {
+    several(|k| (wide_generator(r), u64::MAX - k as u64))
+}
+
+fn near_2_20(r: &mut Random) -> Vec<(Generator, u64)> {
+    several(|k| (wide_generator(r), (1 << 20) + k as u64))
+}
+
 /// A generator of which element 1 and element 0 first differ in this place, and a number that
 /// differs from both of them in the place before: it never occurs, and the search settles all
 /// places up to there.
@@ -147,19 +155,22 @@ fn gap_and_index(inputs: &[(Generator, u64, u64)]) -> Timing {
     measured(inputs, |(g, x, y)| library::gap(g, x, y).found, |(g, _, y)| library::index(g, y).found)
 }
 
-fn element_and_advance(inputs: &[(Generator, u64)]) -> Timing {
+/// What a peer takes: multiplier, increment, seed, and the index or the number sought.
+type Peer = fn(u64, u64, u64, u64) -> u64;
+
+fn element_and(advance: Peer, inputs: &[(Generator, u64)]) -> Timing {
     measured(
         inputs,
         |(g, i)| library::element(g, i).value,
-        |(g, i)| peers::advance(g.multiplier, g.increment, g.seed, i),
+        |(g, i)| advance(g.multiplier, g.increment, g.seed, i),
     )
 }
 
-fn index_and_distance(inputs: &[(Generator, u64)]) -> Timing {
+fn index_and(distance: Peer, inputs: &[(Generator, u64)]) -> Timing {
     measured(
         inputs,
         |(g, y)| library::index(g, y).index,
-        |(g, y)| peers::distance(g.multiplier, g.increment, g.seed, y),
+        |(g, y)| distance(g.multiplier, g.increment, g.seed, y),
     )
 }
 
@@ -194,10 +205,8 @@ fn remake(runs: &[Run], count: usize) -> Timing {
 
 fn calls(out: &Output, r: &mut Random) {
     out.heading("call", "Rust");
-    out.row("element", "index near 2^64", || element(&several(|k| (wide_generator(r), u64::MAX - k as u64))));
-    out.row("element", "index near 2^20", || {
-        element(&several(|k| (wide_generator(r), (1 << 20) + k as u64)))
-    });
+    out.row("element", "index near 2^64", || element(&near_2_64(r)));
+    out.row("element", "index near 2^20", || element(&near_2_20(r)));
     out.row("index", "width 64, found", || index(&several(|_| (wide_generator(r), r.word()))));
     out.row("index", "width 64, never, seen at the lowest place", || index(&several(|_| never_at(r, 1))));
     out.row("index", "width 64, never, seen at place 62", || index(&several(|_| never_at(r, 63))));
@@ -220,9 +229,17 @@ fn calls(out: &Output, r: &mut Random) {
 
 fn peers_way(out: &Output, r: &mut Random) {
     out.heading("peers", "peer");
-    let inputs = several(|_| (wide_generator(r), r.word()));
-    out.row("element, advance", "width 64, any index", || element_and_advance(&inputs));
-    out.row("index, distance", "width 64, any number", || index_and_distance(&inputs));
+    let any = several(|_| (wide_generator(r), r.word()));
+    let (long, short) = (near_2_64(r), near_2_20(r));
+    for (name, advance) in
+        [("element, advance", peers::advance as Peer), ("element, advance by g++", peers::gpp::advance)]
+    {
+        out.row(name, "width 64, any index", || element_and(advance, &any));
+        out.row(name, "index near 2^64", || element_and(advance, &long));
+        out.row(name, "index near 2^20", || element_and(advance, &short));
+    }
+    out.row("index, distance", "width 64, any number", || index_and(peers::distance, &any));
+    out.row("index, distance by g++", "width 64, any number", || index_and(peers::gpp::distance, &any));
 }
 
 fn beside_index(out: &Output, r: &mut Random) {

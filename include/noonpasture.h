@@ -24,7 +24,7 @@
 extern "C" {
 #endif
 
-#define NP_VERSION "0.6.0"
+#define NP_VERSION "0.6.1"
 
 #define NP_LINE_MAX 107       /* no line of a run is longer, its byte 10 included */
 #define NP_ARCHIVE_MAX 65536  /* no accepted archive is longer */

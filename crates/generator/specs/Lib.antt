@@ -1,5 +1,5 @@
--- What the contracts of this crate cite. All but `Kinds` and `Affine` is what has to be believed of the calls; these two are
--- cited only by functions behind them.
+-- What the contracts of this crate cite. All but `Kinds`, `Affine` and `Trace` is what has to be believed of the calls; these
+-- three are cited only by functions behind them, and `Trace` is also for whoever traces the jump.
 pub mod Recurrence
 pub mod Refusals
 pub mod Replies

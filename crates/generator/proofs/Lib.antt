@@ -4,6 +4,7 @@ pub mod Replies
 pub mod Elements
 pub mod Walking
 pub mod Trace
+pub mod TraceNumbers
 pub mod StepBack
 pub mod Table
 mod OddPowers

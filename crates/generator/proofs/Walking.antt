@@ -12,7 +12,7 @@ use Rattle.generator.specs.Affine.{Linear, onceOf, apply, iterate, Walks
 use Rattle.generator.proofs.Refusals.{modulus-linear}
 
 -- i steps and then j are i + j
-iterate-add : (a c i j x : ℕ) → iterate a c (i + j) x ≡ iterate a c j (iterate a c i x)
+pub iterate-add : (a c i j x : ℕ) → iterate a c (i + j) x ≡ iterate a c j (iterate a c i x)
 unfolding iterate
 iterate-add a c i zero x = ap (λ (k : ℕ). iterate a c k x) (add-zero i)
 iterate-add a c i (suc j) x =

@@ -4,7 +4,7 @@ ghost use Prim.Native.Nat.{_+_, _%_, _^_, _<_};
 ghost use Rattle.generator.specs.Recurrence.{element, step};
 ghost use Rattle.generator.specs.Predecessor.{OnlyPredecessor};
 ghost use Rattle.generator.specs.Affine.{Linear, Walks, Composes, apply, onceOf};
-ghost use Rattle.generator.specs.Trace.{progressOf, askedOf, Rounded, Rounds, Finishes};
+ghost use Rattle.generator.specs.Trace.{affineOf, selectedOf, OneRound, Rounds, Continues};
 use crate::Generator;
 use std::num::wrapping_add_u64;
 use std::num::wrapping_sub_u64;
@@ -54,8 +54,8 @@ pub struct Progress {
 
 // What the lowest bit of the index left asks for: the stride, or no step. The map is chosen and not the product, so that the
 // choice is off the chain of products and compiles without a branch.
-fn asked(p: Progress) -> Affine
-    ensures { λ r. ⌜ r ≡ askedOf p ⌝ }
+fn selected(p: Progress) -> Affine
+    ensures { λ r. ⌜ r ≡ selectedOf p ⌝ }
 {
     if p.left % 2 == 0 {
         return Affine {
@@ -68,10 +68,10 @@ fn asked(p: Progress) -> Affine
 
 // One round: does what the lowest bit asks for, doubles the stride and goes on with half the index.
 pub fn round(p: Progress) -> Progress
-    ensures { λ r. ⌜ Rounded p r ⌝ }
+    ensures { λ r. ⌜ OneRound p r ⌝ }
 {
     let stride = p.stride;
-    let done = compose(p.done, asked(p));
+    let done = compose(p.done, selected(p));
     let twice = compose(stride, stride);
     Progress {
         stride: twice,
@@ -80,16 +80,18 @@ pub fn round(p: Progress) -> Progress
     }
 }
 
+// Four rounds, which are inlined.
 fn four_rounds(p: Progress) -> Progress
     ensures { λ r. ⌜ Rounds 4 p r ⌝ }
 {
     round(round(round(round(p))))
 }
 
-// The map of all steps of a jump under way, by eight rounds a call down to index 0; rounds at index 0 change nothing. The
-// numbers go to the next call in registers, where a struct would go through memory.
+// The map "times factor, plus offset", followed by as many steps of "times a, plus c" as are left: eight rounds a call, down
+// to index 0. Rounds at index 0 leave the map done as it is. The numbers go to the next call in registers, where a struct
+// would go through memory.
 fn finish(a: u64, c: u64, factor: u64, offset: u64, left: u64) -> Affine
-    ensures { λ r. ⌜ Finishes (progressOf a c factor offset left) r ⌝ }
+    ensures { λ r. ⌜ Continues a c left (affineOf factor offset) r ⌝ }
 {
     let done = Affine { factor, offset };
     if left == 0 {

@@ -8,7 +8,7 @@ use Rattle.generator.proofs.linear.finish.Reads as finish
 use Rattle.generator.proofs.linear.finish.Kinds as finish-kinds
 use Rattle.generator.proofs.linear.+finish.Lts-finish as finish-lts
 use Rattle.generator.proofs.linear.four_rounds.Reads as four-rounds-reads
-use Rattle.generator.proofs.Trace.{finishes-now, finishes-later}
+use Rattle.generator.proofs.Trace.{continues-now, continues-later}
 use Rattle.generator.proofs.linear.+finish.{statement}
 use Rattle.generator.proofs.linear.+finish.Tie.{close}
 
@@ -26,7 +26,7 @@ abbrev callees : ℕ → finish-lts.Claims
 callees t = (four-rounds-reads.Asked, four-rounds-reads.Learnt, finish-below t, finish.Post)
 
 finish-returns : (t : ℕ) → finish-lts.Need-returns (callees t) (finish-at t) finish.Post
-finish-returns t c = finishes-now (c .if1 .taken)
+finish-returns t c = continues-now (c .if1 .taken)
 
 finish-four-rounds-requires : (t : ℕ) → finish-lts.Need-four-rounds-requires (callees t) (finish-at t) finish.Post
 finish-four-rounds-requires t c κs = tt
@@ -44,7 +44,7 @@ finish-finish-requires t c κs =
 finish-returns-2 : (t : ℕ) → finish-lts.Need-returns-2 (callees t) (finish-at t) finish.Post
 finish-returns-2 t c =
     let b = c .before in
-    finishes-later (b .before .four-rounds .ensures) (finishes-later (b .four-rounds2 .ensures) (c .finish .ensures))
+    continues-later (b .before .four-rounds .ensures) (continues-later (b .four-rounds2 .ensures) (c .finish .ensures))
 
 pub +finish-spec : {M : Type 1} → statement M
 +finish-spec = close μ-finish λ t. finish-lts.spec (callees t)

@@ -1,6 +1,6 @@
 -- `generator::linear::four_rounds` meets its contract.
 use borrow.Author.Needs.{needs}
-use Rattle.generator.proofs.Trace.{rounds-one, rounds-add}
+use Rattle.generator.proofs.Trace.{rounds-none, rounds-next}
 use Rattle.generator.proofs.linear.four_rounds.Statement.{statement}
 use Rattle.generator.proofs.linear.four_rounds.Tie as tie
 
@@ -20,9 +20,11 @@ returns : tie.Need-returns
 returns c =
     let third = c .before in
     let second = third .before in
-    rounds-add
-    (rounds-add (rounds-one (second .before .round .ensures)) (rounds-one (second .round2 .ensures)))
-    (rounds-add (rounds-one (third .round3 .ensures)) (rounds-one (c .round4 .ensures)))
+    let first = second .before in
+    let start = rounds-none (first .before .args .p) in
+    rounds-next
+    (rounds-next (rounds-next (rounds-next start (first .round .ensures)) (second .round2 .ensures)) (third .round3 .ensures))
+    (c .round4 .ensures)
 
 pub four-rounds-spec : {M : Type 1} → statement M
 four-rounds-spec =

@@ -1,12 +1,12 @@
 -- `generator::linear::round` meets its contract.
 use native.Mathlib.Omega.{arith}
 use borrow.Author.Needs.{needs}
-use Rattle.generator.proofs.Trace.{rounded}
+use Rattle.generator.proofs.Trace.{one-round}
 use Rattle.generator.proofs.linear.round.Statement.{statement}
 use Rattle.generator.proofs.linear.round.Tie as tie
 
-asked-requires : tie.Need-asked-requires
-asked-requires c κs = search needs
+selected-requires : tie.Need-selected-requires
+selected-requires c κs = search needs
 
 compose-requires : tie.Need-compose-requires
 compose-requires c κs = search needs
@@ -17,8 +17,8 @@ compose-requires-2 c κs = search needs
 returns : tie.Need-returns
 returns c =
     let b = c .before .before in
-    rounded (b .before .before .before .args .p) (b .before .asked .ensures) (b .compose .ensures) (c .before .compose2 .ensures)
+    one-round (b .before .before .before .args .p) (b .before .selected .ensures) (b .compose .ensures) (c .before .compose2 .ensures)
     (omega arith)
 
 pub round-spec : {M : Type 1} → statement M
-round-spec = tie.close (tie.spec asked-requires compose-requires compose-requires-2 returns)
+round-spec = tie.close (tie.spec selected-requires compose-requires compose-requires-2 returns)

@@ -1,10 +1,10 @@
--- `generator::linear::asked` meets its contract.
+-- `generator::linear::selected` meets its contract.
 use mathlib.Core.Path.{refl}
 use Prim.Native.Nat.{_%_}
 use native.Mathlib.Omega.{arith}
 use borrow.Author.Tests.{eq-eqb, ne-eqb}
-use Rattle.generator.proofs.linear.asked.Statement.{statement}
-use Rattle.generator.proofs.linear.asked.Tie as tie
+use Rattle.generator.proofs.linear.selected.Statement.{statement}
+use Rattle.generator.proofs.linear.selected.Tie as tie
 
 returns : tie.Need-returns
 returns c = rw (eq-eqb (c .before .before .args .p .left % 2) 0 (omega (arith, c .if1 .taken))) refl
@@ -12,5 +12,5 @@ returns c = rw (eq-eqb (c .before .before .args .p .left % 2) 0 (omega (arith, c
 returns-2 : tie.Need-returns-2
 returns-2 c = rw (ne-eqb (c .before .before .before .args .p .left % 2) 0 (λ e. omega (arith, e, c .before .if1 .left))) refl
 
-pub asked-spec : {M : Type 1} → statement M
-asked-spec = tie.close (tie.spec returns returns-2)
+pub selected-spec : {M : Type 1} → statement M
+selected-spec = tie.close (tie.spec returns returns-2)

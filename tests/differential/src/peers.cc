@@ -1,5 +1,5 @@
 // The two functions of peers.rs once more, for g++ to build.
-#include <cstdint>
+#include <stdint.h>
 
 namespace {
 

@@ -8,8 +8,8 @@
 //!   the state, and takes 1, 2, 4, .. steps where the state differs from the number sought in a bit.
 //!   Every such stride changes its bit in a generator of full period, so this needs no other test.
 //!
-//! Both take plain numbers, as there, and refuse nothing. Compilers differ in where they make branches
-//! of the bits, and pcg-cpp is mostly built by g++: so both are here once more, as g++ builds them.
+//! Both take plain numbers, as there, and refuse nothing. Compilers differ in where they branch on the
+//! bits, so both are here once more, as g++ builds them.
 
 /// Multiplier and increment of twice as many steps.
 fn doubled(multiplier: u64, increment: u64) -> (u64, u64) {

@@ -11,7 +11,7 @@ struct Map {
 }
 
 impl Map {
-    const NONE: Map = Map { factor: 1, summand: 0 };
+    const IDENTITY: Map = Map { factor: 1, summand: 0 };
 
     fn step(g: Generator) -> Map {
         Map { factor: g.multiplier, summand: g.increment }
@@ -38,8 +38,8 @@ impl Jump {
     /// Does what the lowest bit asks for, doubles the stride and halves the index. At index 0 the map
     /// done stays as it is.
     fn round(self) -> Jump {
-        let asked = if self.left & 1 == 1 { self.stride } else { Map::NONE };
-        Jump { stride: self.stride.then(self.stride), done: self.done.then(asked), left: self.left / 2 }
+        let selected = if self.left & 1 == 1 { self.stride } else { Map::IDENTITY };
+        Jump { stride: self.stride.then(self.stride), done: self.done.then(selected), left: self.left / 2 }
     }
 
     fn four_rounds(self) -> Jump {
@@ -56,7 +56,7 @@ impl Jump {
 
 /// The map of `count` steps.
 fn steps(one: Map, count: u64) -> Map {
-    Jump { stride: one, done: Map::NONE, left: count }.finish()
+    Jump { stride: one, done: Map::IDENTITY, left: count }.finish()
 }
 
 fn mask(width: u64) -> u64 {

@@ -100,10 +100,12 @@ fn wide_generator(r: &mut Random) -> Generator {
     full_period_generator(r, 64)
 }
 
+/// In order, so that branches on its bits are foreseen.
 fn near_2_64(r: &mut Random) -> Vec<(Generator, u64)> {
     several(|k| (wide_generator(r), u64::MAX - k as u64))
 }
 
+/// In order too.
 fn near_2_20(r: &mut Random) -> Vec<(Generator, u64)> {
     several(|k| (wide_generator(r), (1 << 20) + k as u64))
 }
@@ -155,10 +157,8 @@ fn gap_and_index(inputs: &[(Generator, u64, u64)]) -> Timing {
     measured(inputs, |(g, x, y)| library::gap(g, x, y).found, |(g, _, y)| library::index(g, y).found)
 }
 
-/// What a peer takes: multiplier, increment, seed, and the index or the number sought.
-type Peer = fn(u64, u64, u64, u64) -> u64;
-
-fn element_and(advance: Peer, inputs: &[(Generator, u64)]) -> Timing {
+/// A peer takes multiplier, increment, seed, and the index or the number sought.
+fn element_and(advance: impl Fn(u64, u64, u64, u64) -> u64, inputs: &[(Generator, u64)]) -> Timing {
     measured(
         inputs,
         |(g, i)| library::element(g, i).value,
@@ -166,7 +166,7 @@ fn element_and(advance: Peer, inputs: &[(Generator, u64)]) -> Timing {
     )
 }
 
-fn index_and(distance: Peer, inputs: &[(Generator, u64)]) -> Timing {
+fn index_and(distance: impl Fn(u64, u64, u64, u64) -> u64, inputs: &[(Generator, u64)]) -> Timing {
     measured(
         inputs,
         |(g, y)| library::index(g, y).index,
@@ -230,13 +230,18 @@ fn calls(out: &Output, r: &mut Random) {
 fn peers_way(out: &Output, r: &mut Random) {
     out.heading("peers", "peer");
     let any = several(|_| (wide_generator(r), r.word()));
-    let (long, short) = (near_2_64(r), near_2_20(r));
-    for (name, advance) in
-        [("element, advance", peers::advance as Peer), ("element, advance by g++", peers::gpp::advance)]
-    {
-        out.row(name, "width 64, any index", || element_and(advance, &any));
-        out.row(name, "index near 2^64", || element_and(advance, &long));
-        out.row(name, "index near 2^20", || element_and(advance, &short));
+    let inputs = [
+        ("width 64, any index", any.clone()),
+        ("index near 2^64", near_2_64(r)),
+        ("index near 2^64, low 20 bits at random", several(|_| (wide_generator(r), u64::MAX - r.bits(20)))),
+        ("index near 2^20", near_2_20(r)),
+        ("index near 2^20, low 20 bits at random", several(|_| (wide_generator(r), (1 << 20) + r.bits(20)))),
+    ];
+    for (input, inputs) in &inputs {
+        out.row("element, advance", input, || element_and(peers::advance, inputs));
+    }
+    for (input, inputs) in &inputs {
+        out.row("element, advance by g++", input, || element_and(peers::gpp::advance, inputs));
     }
     out.row("index, distance", "width 64, any number", || index_and(peers::distance, &any));
     out.row("index, distance by g++", "width 64, any number", || index_and(peers::gpp::distance, &any));

@@ -1,5 +1,5 @@
--- `generator::linear::finish` meets its contract: with no index left all is done, otherwise the call goes on with what eight
--- rounds leave of it. The measure is the index left.
+-- `generator::linear::finish` meets its contract: with no index left, at the beginning or after eight rounds, all is done;
+-- otherwise it goes on with what the rounds leave. The measure is the index left.
 use Prim.Native.Nat.{ℕ, _<_}
 use native.Mathlib.Omega.{arith}
 use borrow.Fn.Kinds.{In}
@@ -34,17 +34,24 @@ finish-four-rounds-requires t c κs = tt
 finish-four-rounds-requires-2 : (t : ℕ) → finish-lts.Need-four-rounds-requires-2 (callees t) (finish-at t) finish.Post
 finish-four-rounds-requires-2 t c κs = tt
 
-finish-finish-requires : (t : ℕ) → finish-lts.Need-finish-requires (callees t) (finish-at t) finish.Post
-finish-finish-requires t c κs =
-    let b = c .before in
-    let fourth = b .four-rounds .ensures .left in
-    let eighth = c .four-rounds2 .ensures .left in
-    (omega (arith, fourth, eighth, b .before .if1 .left, b .before .before .pre .0), tt)
-
 finish-returns-2 : (t : ℕ) → finish-lts.Need-returns-2 (callees t) (finish-at t) finish.Post
 finish-returns-2 t c =
-    let b = c .before in
-    continues-later (b .before .four-rounds .ensures) (continues-later (b .four-rounds2 .ensures) (c .finish .ensures))
+    let b = c .before .before .before in
+    continues-later (b .before .four-rounds .ensures)
+    (continues-later (b .four-rounds2 .ensures) (continues-now (c .before .if2 .taken)))
+
+finish-finish-requires : (t : ℕ) → finish-lts.Need-finish-requires (callees t) (finish-at t) finish.Post
+finish-finish-requires t c κs =
+    let b = c .before .before in
+    let fourth = b .before .four-rounds .ensures .left in
+    let eighth = b .four-rounds2 .ensures .left in
+    (omega (arith, fourth, eighth, b .before .before .if1 .left, b .before .before .before .pre .0), tt)
+
+finish-returns-3 : (t : ℕ) → finish-lts.Need-returns-3 (callees t) (finish-at t) finish.Post
+finish-returns-3 t c =
+    let b = c .before .before .before in
+    continues-later (b .before .four-rounds .ensures)
+    (continues-later (b .four-rounds2 .ensures) (c .finish .ensures))
 
 pub +finish-spec : {M : Type 1} → statement M
 +finish-spec = close μ-finish λ t. finish-lts.spec (callees t)
@@ -53,5 +60,6 @@ pub +finish-spec : {M : Type 1} → statement M
     (finish-returns t)
     (finish-four-rounds-requires t)
     (finish-four-rounds-requires-2 t)
-    (finish-finish-requires t)
     (finish-returns-2 t)
+    (finish-finish-requires t)
+    (finish-returns-3 t)

@@ -1,6 +1,6 @@
 -- What some rounds of a jump make of any state: the stride 2 ^ n times over, what is done followed by as many strides as the
--- low n bits of the index left say, and the other bits of it. A round more doubles the first and adds it to the second where
--- the next bit is 1 (`walks-add`). So after k rounds from the start the map of 2 ^ k steps is in hand, the map of
+-- low n bits of the index left say, and the other bits of it. A round more doubles the first (`walks-add`) and adds it to the
+-- second where the next bit is 1 (`continues-add`). So after k rounds from the start the map of 2 ^ k steps is in hand, the map of
 -- (i modulo 2 ^ k) steps is done and i / 2 ^ k is left; and what is done, followed by as many strides as are left, stays the
 -- map of all i steps.
 use mathlib.Core.Path.{_≡_, refl, sym, ap, subst, _∙_}

@@ -36,7 +36,7 @@ states :
 unfolding rowOf
 states = refl
 
--- the same in the low 10 bits, as a machine of 10 bits has them
+-- the same, its low 10 bits
 abbrev lowOf : Affine → Affine
 lowOf f = affineOf (f .factor % 2 ^ 10) (f .offset % 2 ^ 10)
 

@@ -30,8 +30,8 @@ pub record OneRound (p r : Progress) : Type 0 where
   pub done : Composes (p .done) (selectedOf p) (r .done)
   pub left : r .left ≡ p .left / 2
 
--- A row of states of the jump of i steps of "times a, plus c": each is one round later than the one before it. Rounds at
--- index 0 continue a row that ends.
+-- A row of states of the jump of i steps of "times a, plus c": each is one round later than the one before it. A row has no
+-- end: after the jump's last round it goes on with rounds at index 0.
 pub record Row (a c i : ℕ) (state : ℕ → Progress) : Type 0 where
   pub starts : state 0 ≡ startOf a c i
   pub next : (k : ℕ) → OneRound (state k) (state (suc k))
@@ -43,7 +43,7 @@ pub record Traced (a c i k : ℕ) (p : Progress) : Type 0 where
   pub done : Walks a c (i % 2 ^ k) (p .done)
   pub left : p .left ≡ i / 2 ^ k
 
--- For the functions behind. r is f followed by n steps of "times a, plus c".
+-- For the contracts of the jump's functions. r is f followed by n steps of "times a, plus c".
 pub record Continues (a c n : ℕ) (f r : Affine) : Type 0 where
   pub continues : (x : ℕ) → apply r x % 2 ^ 64 ≡ iterate a c n (apply f x) % 2 ^ 64
 

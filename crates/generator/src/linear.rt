@@ -88,8 +88,8 @@ fn four_rounds(p: Progress) -> Progress
 }
 
 // The map "times factor, plus offset", followed by as many steps of "times a, plus c" as are left: eight rounds a call, down
-// to index 0. Rounds at index 0 leave the map done as it is. A call hands its map back through memory, so none is made when
-// nothing is left; the numbers go to it in registers, where a struct would go through memory too.
+// to index 0. Rounds at index 0 leave the map done as it is. A call hands its map back through memory, so no further one is
+// made once nothing is left; the numbers go to it in registers, where a struct would go through memory too.
 fn finish(a: u64, c: u64, factor: u64, offset: u64, left: u64) -> Affine
     ensures { λ r. ⌜ Continues a c left (affineOf factor offset) r ⌝ }
 {

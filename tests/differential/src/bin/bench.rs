@@ -100,12 +100,12 @@ fn wide_generator(r: &mut Random) -> Generator {
     full_period_generator(r, 64)
 }
 
-/// In order, so that branches on its bits are foreseen.
+/// Indices in order, so that branches on their bits are foreseen.
 fn near_2_64(r: &mut Random) -> Vec<(Generator, u64)> {
     several(|k| (wide_generator(r), u64::MAX - k as u64))
 }
 
-/// In order too.
+/// In order as well.
 fn near_2_20(r: &mut Random) -> Vec<(Generator, u64)> {
     several(|k| (wide_generator(r), (1 << 20) + k as u64))
 }

@@ -20,6 +20,7 @@ use Rattle.generator.specs.Trace.{identity, startOf, selectedOf, OneRoun
 use Rattle.generator.proofs.Walking.{
   iterate-add,
   same-iterate,
+  steps-add,
   walks-none,
   walks-one,
   walks-as,
@@ -41,14 +42,8 @@ continues-add :
     Walks a c j second →
     Composes g second r →
     Continues a c (i + j) f r
-continues-add {a} {c} {i} {j} {f} {g} h w k =
-    record {
-      continues =
-          λ x.
-          k .composes x ∙ w .walks (apply g x)
-          ∙ same-iterate a c j (record { same = h .continues x }) .same
-          ∙ ap (λ (y : ℕ). y % 2 ^ 64) (sym (iterate-add a c i j (apply f x)));
-    }
+continues-add {i = i} {f = f} h w k =
+    record { continues = λ x. steps-add i x (apply f x) (h .continues x) w k }
 
 -- from the map of no step on, it is the map of the steps
 pub continues-start : {a c i : ℕ} {r : Affine} → Continues a c i identity r → Walks a c i r

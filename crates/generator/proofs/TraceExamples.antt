@@ -1,6 +1,6 @@
 -- The trace of the jump of 1000 steps of 10, 371, 995, 73, computed round by round.
 use mathlib.Core.Path.{_≡_, refl}
-use mathlib.Core.List.{[], _∷_, map}
+use mathlib.Core.List.{List, [], _∷_, map}
 use Prim.Native.Nat.{ℕ, _%_, _^_}
 use Rattle.generator.specs.declared.linear.Affine.{Affine}
 use Rattle.generator.specs.declared.linear.Progress.{Progress}
@@ -18,9 +18,12 @@ progressOf a c factor offset left = record { stride = affineOf a c; done = affin
 traced : (k : ℕ) → Traced 371 995 1000 k (rowOf 371 995 1000 k)
 traced = trace (row-is 371 995 1000)
 
--- the stride, the map done and the index left after 0 to 10 rounds
-states :
-    map (rowOf 371 995 1000) (0 ∷ 1 ∷ 2 ∷ 3 ∷ 4 ∷ 5 ∷ 6 ∷ 7 ∷ 8 ∷ 9 ∷ 10 ∷ [])
+-- after 0 to 10 rounds
+abbrev states : List Progress
+states = map (rowOf 371 995 1000) (0 ∷ 1 ∷ 2 ∷ 3 ∷ 4 ∷ 5 ∷ 6 ∷ 7 ∷ 8 ∷ 9 ∷ 10 ∷ [])
+
+whole :
+    states
     ≡ progressOf 371 995 1 0 1000
     ∷ progressOf 137641 370140 1 0 500
     ∷ progressOf 18945044881 50946809880 1 0 250
@@ -34,15 +37,14 @@ states :
     ∷ progressOf 17141258589506703361 16930289225511032832 8297775752359979937 11844515184105876208 0
     ∷ []
 unfolding rowOf
-states = refl
+whole = refl
 
--- the same, its low 10 bits
+-- their low 10 bits
 abbrev lowOf : Affine → Affine
 lowOf f = affineOf (f .factor % 2 ^ 10) (f .offset % 2 ^ 10)
 
-low-states :
-    map (λ k. let p = rowOf 371 995 1000 k in record { stride = lowOf (p .stride); done = lowOf (p .done); left = p .left })
-    (0 ∷ 1 ∷ 2 ∷ 3 ∷ 4 ∷ 5 ∷ 6 ∷ 7 ∷ 8 ∷ 9 ∷ 10 ∷ [])
+low :
+    map (λ p. record { stride = lowOf (p .stride); done = lowOf (p .done); left = p .left }) states
     ≡ progressOf 371 995 1 0 1000
     ∷ progressOf 425 476 1 0 500
     ∷ progressOf 401 24 1 0 250
@@ -56,20 +58,20 @@ low-states :
     ∷ progressOf 1 0 929 752 0
     ∷ []
 unfolding rowOf
-low-states = refl
+low = refl
+
+-- what is done takes the seed to the element at 1000 modulo 2 ^ k: 73 at 0, 793 at 8, 601 at 40, ..
+reached :
+    map (λ p. apply (p .done) 73 % 2 ^ 10) states
+    ≡ map (element (record { width = 10; multiplier = 371; increment = 995; seed = 73 }))
+    (0 ∷ 0 ∷ 0 ∷ 0 ∷ 8 ∷ 8 ∷ 40 ∷ 104 ∷ 232 ∷ 488 ∷ 1000 ∷ [])
+unfolding rowOf element step modulus
+reached = refl
 
 -- the jump ends after 16 rounds, by eight at a time; the last six are at index 0 and leave what is done
 ends : rowOf 371 995 1000 16 .done ≡ rowOf 371 995 1000 10 .done
 unfolding rowOf
 ends = refl
-
--- what is done takes the seed to the element at 1000 modulo 2 ^ k: 73 at 0, 793 at 8, 601 at 40, ..
-reached :
-    map (λ k. apply (rowOf 371 995 1000 k .done) 73 % 2 ^ 10) (0 ∷ 1 ∷ 2 ∷ 3 ∷ 4 ∷ 5 ∷ 6 ∷ 7 ∷ 8 ∷ 9 ∷ 10 ∷ [])
-    ≡ map (element (record { width = 10; multiplier = 371; increment = 995; seed = 73 }))
-    (0 ∷ 0 ∷ 0 ∷ 0 ∷ 8 ∷ 8 ∷ 40 ∷ 104 ∷ 232 ∷ 488 ∷ 1000 ∷ [])
-unfolding rowOf element step modulus
-reached = refl
 
 -- a jump of no step ends before the first round, and eight rounds would not change it
 none : map (λ k. rowOf 1 1 0 k .done) (0 ∷ 8 ∷ []) ≡ identity ∷ identity ∷ []

@@ -43,6 +43,18 @@ composed first second r e f =
           (omega arith) .same;
     }
 
+-- where a map takes x to i steps from y, a map of j steps behind it leads to i + j steps from y
+pub steps-add :
+    {a c j : ℕ} {first second r : Affine} (i x y : ℕ) →
+    apply first x % 2 ^ 64 ≡ iterate a c i y % 2 ^ 64 →
+    Walks a c j second →
+    Composes first second r →
+    apply r x % 2 ^ 64 ≡ iterate a c (i + j) y % 2 ^ 64
+steps-add {a} {c} {j} {first} i x y e w h =
+    h .composes x ∙ w .walks (apply first x)
+    ∙ same-iterate a c j (record { same = e }) .same
+    ∙ ap (λ (z : ℕ). z % 2 ^ 64) (sym (iterate-add a c i j y))
+
 -- a map of i steps followed by one of j steps is a map of i + j steps
 pub walks-add :
     {a c i j : ℕ} {first second r : Affine} →
@@ -50,14 +62,7 @@ pub walks-add :
     Walks a c j second →
     Composes first second r →
     Walks a c (i + j) r
-walks-add {a} {c} {i} {j} {first} {second} f g h =
-    record {
-      walks =
-          λ x.
-          h .composes x ∙ g .walks (apply first x)
-          ∙ same-iterate a c j (record { same = f .walks x }) .same
-          ∙ ap (λ (y : ℕ). y % 2 ^ 64) (sym (iterate-add a c i j x));
-    }
+walks-add {i = i} f g h = record { walks = λ x. steps-add i x x (f .walks x) g h }
 
 -- no step
 pub walks-none : (a c : ℕ) → Walks a c 0 (record { factor = 1; offset = 0 })

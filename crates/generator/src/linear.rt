@@ -80,7 +80,7 @@ pub fn round(p: Progress) -> Progress
     }
 }
 
-// Four rounds, which are inlined.
+// Four rounds in one body, so that a call of `finish` is worth what it costs.
 fn four_rounds(p: Progress) -> Progress
     ensures { λ r. ⌜ Rounds 4 p r ⌝ }
 {

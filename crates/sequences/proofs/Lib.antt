@@ -8,3 +8,5 @@ pub mod Isometric
 pub mod Strides
 pub mod Search
 pub mod Contracting
+pub mod LowPlaces
+pub mod Occurrences

@@ -149,26 +149,34 @@ return-orbit {x} {P} l law =
       first = λ i j b. absurd (omega arith);
     }
 
--- The definitions.
+-- The definitions. An element that comes again after P indices, and not after fewer:
+return-after : (x : ℕ → ℕ) {P bound : ℕ} (k : ℕ) → 1 ≤ P → P ≤ bound → x (k + P) ≡ x k →
+    ((d : ℕ) → 1 ≤ d → x (k + d) ≡ x k → P ≤ d) → returnOf x bound k ≡ P - 1
+unfolding returnOf
+return-after x {P} k positive within returns shortest =
+    least-unique
+    (record {
+      within = omega arith;
+      holds = λ h. eq-eqb _ _ (ap x (let e : k + 1 + (P - 1) ≡ k + P = omega arith in e) ∙ returns);
+      first =
+          λ j h.
+          ne-eqb (x (k + 1 + j)) (x k) λ e.
+          omega
+          (arith, shortest (suc j) (omega arith) (ap x (let q : k + suc j ≡ k + 1 + j = omega arith in q) ∙ e));
+    })
+
 module _ {x : ℕ → ℕ} {t P bound : ℕ} (o : IsOrbit x t P) (within : t + P ≤ bound) where
   return-is : returnOf x bound t ≡ P - 1
-  unfolding returnOf
-  return-is =
-      least-unique
-      (record {
-        within = omega arith;
-        holds =
-            λ h.
-            eq-eqb _ _ (ap x (let e : t + 1 + (P - 1) ≡ t + P = omega (arith, o .positive) in e) ∙ o .returns);
-        first =
-            λ j h.
-            ne-eqb (x (t + 1 + j)) (x t) λ e.
-            omega
-            (arith, o .shortest (suc j) (omega arith) (ap x (let q : t + suc j ≡ t + 1 + j = omega arith in q) ∙ e));
-      })
+  return-is = return-after x t (o .positive) (omega arith) (o .returns) (o .shortest)
+
+  -- and from t on every element comes again after P indices
+  pub return-from : Follows x → (k : ℕ) → t ≤ k → returnOf x bound k ≡ P - 1
+  return-from f k l =
+      return-after x k (o .positive) (omega arith) (once-round f o k l)
+      (λ d b e. congruent-gap (same-sym (equal-congruent f o {i = k} {j = k + d} l (omega arith) (sym e))) b)
 
   -- before the preperiod no element returns
-  no-return : (i : ℕ) → i < t → returnOf x bound i ≡ bound
+  pub no-return : (i : ℕ) → i < t → returnOf x bound i ≡ bound
   unfolding returnOf
   no-return i l =
       least-unique

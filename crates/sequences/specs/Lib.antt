@@ -5,4 +5,5 @@ pub mod Least
 pub mod Orbit
 pub mod Index
 pub mod Gap
+pub mod Occurrences
 pub mod Places

@@ -1,0 +1,131 @@
+-- All indices of a number, in any sequence with any preperiod t and any period P in which equal elements have equal
+-- successors. Let k be the least one. Before t nothing comes again, so k is the only one if it lies there. From t on elements
+-- are equal exactly at indices that are congruent modulo P, so the others are k plus the multiples of P. And the next index
+-- that the definition of the return finds is there too, or there is none.
+use mathlib.Core.Path.{_≡_, refl, sym, ap, _∙_}
+use mathlib.Core.Logic.{_↔_, by-cases}
+use Prim.Native.Nat.{ℕ, zero, suc, _+_, _-_, _*_, _/_, _%_, _≤_, _<_}
+use native.Mathlib.Nat.{div-add-mod', zero-mod, lt-of-not-le}
+use native.Mathlib.Decide.{ℕ-discrete, decLe}
+use native.Mathlib.Omega.{arith}
+use Rattle.words.proofs.Congruence.{
+  Congruent,
+  from-multiples,
+  same-refl,
+  same-sym,
+  same-regroup,
+  same-add-cancel,
+}
+use Rattle.sequences.specs.Index.{Located, Absent}
+use Rattle.sequences.specs.Orbit.{returnOf, preperiodOf, periodOf, IsOrbit}
+use Rattle.sequences.specs.Occurrences.{AllIndices, Alone, Recurring}
+use Rattle.sequences.proofs.Agreement.{Reduced}
+use Rattle.sequences.proofs.Indices.{located-demand, absent-demand}
+use Rattle.sequences.proofs.Orbits.{Follows, congruent-equal, equal-congruent, return-from, no-return, preperiod-is, period-is}
+use Rattle.sequences.proofs.Contracting.{Contracting, Rests, next-equal, resting, rest-orbit}
+
+module _ {x : ℕ → ℕ} {y bound k : ℕ} (a : Alone x y bound k) where
+  alone-only : (i : ℕ) → (x i ≡ y) ↔ (i ≡ k)
+  alone-only i = (λ e. only e, λ e. ap x e ∙ a .located .yields)
+    where
+      only : x i ≡ y → i ≡ k
+      only e =
+          by-cases (ℕ-discrete i k) (λ q. q)
+          (λ d.
+          absurd
+          (a .orbit .first k i (a .before) (omega (arith, a .located .first i e)) (e ∙ sym (a .located .yields))))
+
+  pub alone-all : (every : ℕ) → AllIndices x y 1 k 0 every
+  alone-all every =
+      record { least = located-demand (a .located); once = λ f r. alone-only; again = λ f r. absurd (omega arith) }
+
+  pub alone-return : returnOf x bound k ≡ bound
+  alone-return = no-return (a .orbit) (a .room) k (a .before)
+
+  pub alone-before : k < preperiodOf x bound
+  alone-before = rw (preperiod-is (a .orbit) (a .room)) (a .before)
+
+module _ {x : ℕ → ℕ} {y bound k P : ℕ} (r : Recurring x y bound k P) where
+  module _ (f : Follows x) where
+    recurring-exactly : (i : ℕ) → (x i ≡ y) ↔ ((t : ℕ) × (i ≡ k + t * P))
+    recurring-exactly i = (there, back)
+      where
+        there : x i ≡ y → (t : ℕ) × (i ≡ k + t * P)
+        there e =
+            let l : k ≤ i = r .located .first i e in
+            let d = i - k in
+            let c : Congruent P i k = same-sym (equal-congruent f (r .orbit) (r .reached) l (r .located .yields ∙ sym e)) in
+            let z : Congruent P d 0 = same-add-cancel (same-regroup c (omega arith) (omega arith)) (same-refl P k) in
+            (d / P, omega (arith, z .same, zero-mod P, div-add-mod' d P))
+
+        back : (t : ℕ) × (i ≡ k + t * P) → x i ≡ y
+        back m =
+            ap x (m .1)
+            ∙ congruent-equal f (r .orbit) (omega (arith, r .reached)) (r .reached) (from-multiples 0 (m .0) (omega arith))
+            ∙ r .located .yields
+
+    pub recurring-all : AllIndices x y 1 k 1 P
+    recurring-all =
+        record {
+          least = located-demand (r .located);
+          once = λ q z. absurd (omega arith);
+          again = λ q z. recurring-exactly;
+        }
+
+    pub recurring-return : returnOf x bound k ≡ P - 1
+    recurring-return = return-from (r .orbit) (r .room) f k (r .reached)
+
+  pub recurring-reached : preperiodOf x bound ≤ k
+  recurring-reached = rw (preperiod-is (r .orbit) (r .room)) (r .reached)
+
+  pub recurring-period : periodOf x bound ≡ P
+  recurring-period = period-is (r .orbit) (r .room)
+
+pub absent-all : {x : ℕ → ℕ} {y : ℕ} (every : ℕ) → Absent x y → AllIndices x y 0 0 0 every
+absent-all every h =
+    record {
+      least = absent-demand h;
+      once = λ f r. absurd (omega arith);
+      again = λ f r. absurd (omega arith);
+    }
+
+-- A contracting sequence: what comes again stays, so it is enough to look at the next element.
+module _ {n : ℕ} {x : ℕ → ℕ} (con : Contracting n x) (red : Reduced n x) {y bound k : ℕ} (room : n < bound)
+    (h : Located x y bound k) where
+  rests : (t : ℕ) × Rests x t
+  rests = resting con red
+
+  orbit : (rests .0 ≤ n) × IsOrbit x (rests .0) 1
+  orbit = rest-orbit con red (rests .1)
+
+  pub rests-recurring : x (suc k) ≡ y → Recurring x y bound k 1
+  rests-recurring e =
+      record {
+        located = h;
+        preperiod = rests .0;
+        orbit = orbit .1;
+        room = omega (arith, orbit .0);
+        reached =
+            elim (decLe (rests .0) k) [
+              | yes l ↦ l
+              | no f ↦ absurd (rests .1 .moves k (lt-of-not-le f) (e ∙ sym (h .yields)))
+            ];
+      }
+
+  pub moves-alone : (x (suc k) ≡ y → ⊥) → Alone x y bound k
+  moves-alone d =
+      record {
+        located = h;
+        preperiod = rests .0;
+        period = 1;
+        orbit = orbit .1;
+        room = omega (arith, orbit .0);
+        before =
+            elim (decLe (rests .0) k) [ yes l ↦ absurd (d (stays l)) | no f ↦ lt-of-not-le f ];
+      }
+    where
+      stays : rests .0 ≤ k → x (suc k) ≡ y
+      stays l =
+          congruent-equal (record { next = next-equal con red }) (orbit .1) (omega arith) l
+          (from-multiples 0 1 (omega arith))
+          ∙ h .yields

@@ -1,0 +1,34 @@
+-- All indices at which a sequence yields a number, and the low places of a sequence (document 02, note 3; SCOPE 3.8).
+use mathlib.Core.Path.{_≡_}
+use mathlib.Core.Logic.{_↔_}
+use Prim.Native.Nat.{ℕ, _+_, _*_, _%_, _^_, _≤_, _<_}
+use Rattle.sequences.specs.Index.{Demand3, Located}
+use Rattle.sequences.specs.Orbit.{IsOrbit}
+
+-- What x yields, in the lowest m places.
+unfoldable pub low : ℕ → (ℕ → ℕ) → ℕ → ℕ
+low m x i = x i % 2 ^ m
+
+-- All indices of y, however large: the one given is the least, or there is none; where it does not recur, no other index
+-- yields y; where it does, exactly the index given plus each multiple of `every` yields y.
+pub record AllIndices (x : ℕ → ℕ) (y found index recurs every : ℕ) : Type 0 where
+  pub least : Demand3 x y found index
+  pub once : found ≡ 1 → recurs ≡ 0 → (i : ℕ) → (x i ≡ y) ↔ (i ≡ index)
+  pub again : found ≡ 1 → recurs ≡ 1 → (i : ℕ) → (x i ≡ y) ↔ ((t : ℕ) × (i ≡ index + t * every))
+
+-- For the functions behind the call: k is the least index of y, before the preperiod of x.
+pub record Alone (x : ℕ → ℕ) (y bound k : ℕ) : Type 0 where
+  pub located : Located x y bound k
+  pub preperiod : ℕ
+  pub period : ℕ
+  pub orbit : IsOrbit x preperiod period
+  pub room : preperiod + period ≤ bound
+  pub before : k < preperiod
+
+-- k is the least index of y, not before the preperiod of x, whose period is P.
+pub record Recurring (x : ℕ → ℕ) (y bound k P : ℕ) : Type 0 where
+  pub located : Located x y bound k
+  pub preperiod : ℕ
+  pub orbit : IsOrbit x preperiod P
+  pub room : preperiod + P ≤ bound
+  pub reached : preperiod ≤ k

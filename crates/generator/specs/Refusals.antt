@@ -1,4 +1,4 @@
--- When a call on a generator declines, and document 01's number for each refusal (SCOPE 6).
+-- When a call on a generator declines, and the number of each refusal in documents 01 and 02 (SCOPE 6).
 use mathlib.Core.Bool.{Bool, cond, _||_}
 use Prim.Native.Nat.{ℕ, zero, suc}
 use lib.Dec.{eqb, leb, ltb}
@@ -9,7 +9,7 @@ use Rattle.generator.specs.declared.Check.{Check}
 use Rattle.generator.specs.declared.Check.the-variants.{Accepted, Refused}
 use Rattle.generator.specs.Recurrence.{modulus}
 
--- Document 01's number for each refusal, and its word.
+-- The number of each refusal in documents 01 and 02, and its word there.
 abbrev pub numberOf : Refusal → ℕ
 numberOf refusal.ArchiveTooLong = 1  -- overlong
 numberOf refusal.MalformedLine = 2  -- spoiled line
@@ -19,6 +19,7 @@ numberOf refusal.RunOutOfRange = 5  -- run
 numberOf refusal.ValueOutOfRange = 6  -- misfit
 numberOf refusal.NotInvertible = 7  -- one-way
 numberOf refusal.BufferTooShort = 8  -- short sheet
+numberOf refusal.PlacesOutOfRange = 9  -- places
 
 -- The number that a check gives, 0 where it accepts.
 abbrev pub checkNumber : Check → ℕ

@@ -22,7 +22,7 @@ pub struct Generator {
     pub seed: u64,
 }
 
-// Why a call declines; specs/Refusals.antt has document 01's numbers.
+// Why a call declines; specs/Refusals.antt has the customer's numbers.
 pub enum Refusal {
     ArchiveTooLong,
     MalformedLine,
@@ -32,6 +32,7 @@ pub enum Refusal {
     ValueOutOfRange,
     NotInvertible,
     BufferTooShort,
+    PlacesOutOfRange,
 }
 
 pub enum Check {

@@ -15,5 +15,6 @@ pub fn number(refusal: Refusal) -> u64
         Refusal::ValueOutOfRange => 6,
         Refusal::NotInvertible => 7,
         Refusal::BufferTooShort => 8,
+        Refusal::PlacesOutOfRange => 9,
     }
 }

@@ -9,6 +9,7 @@ ghost use Rattle.generator.specs.Customary.{CustomaryPromise};
 ghost use Rattle.orbits.specs.Orbit.{OrbitPromise};
 ghost use Rattle.orbits.specs.Index.{IndexPromise};
 ghost use Rattle.orbits.specs.Gap.{GapPromise};
+ghost use Rattle.orbits.specs.Places.{PlacesPromise};
 ghost use Rattle.lines.specs.ReadLine.{ReadPromise};
 ghost use Rattle.lines.specs.WriteLine.{WritePromise};
 ghost use Rattle.lines.specs.Variety.{VarietyPromise};
@@ -27,9 +28,11 @@ use lines::plain::of_run;
 use orbits::GapReply;
 use orbits::IndexReply;
 use orbits::OrbitReply;
+use orbits::PlacesReply;
 use orbits::plain::of_gap;
 use orbits::plain::of_index;
 use orbits::plain::of_orbit;
+use orbits::plain::of_places;
 
 // The element at this index.
 #[no_mangle]
@@ -53,6 +56,14 @@ pub extern "C" fn np_index(g: Generator, value: u64) -> IndexReply
     ensures { λ r. ⌜ IndexPromise g value r ⌝ }
 {
     of_index(orbits::index(g, value))
+}
+
+// The indices whose elements agree with the value in the lowest places: the least, and how it goes on; or never.
+#[no_mangle]
+pub extern "C" fn np_index_places(g: Generator, places: u64, value: u64) -> PlacesReply
+    ensures { λ r. ⌜ PlacesPromise g places value r ⌝ }
+{
+    of_places(orbits::index_places(g, places, value))
 }
 
 // The steps from one number to another, back where they are negative, or never.

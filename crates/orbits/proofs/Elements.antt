@@ -49,7 +49,7 @@ reduced {g} v = record { below = below }
 
 module _ {g : Generator} (v : Linear g) where
   -- a step, before its low bits are kept, agrees with the next element in all n places
-  next-place : (m i : ℕ) → m ≤ g .width →
+  pub next-place : (m i : ℕ) → m ≤ g .width →
       Congruent (2 ^ m) (element g (suc i)) (g .multiplier * element g i + g .increment)
   unfolding element
   next-place m i l = same-lower m l (same-result _ (step-linear v (element g i)))

@@ -25,45 +25,6 @@ use Rattle.orbits.specs.Index.{replyOf, IndexPromise}
 use Rattle.orbits.proofs.Elements.{reduced, contracting}
 use Rattle.orbits.proofs.Orbits.{lt-two-pow}
 
--- what is found below 2 ^ n is found below the modulus
-pub located-modulus : {g : Generator} {y k : ℕ} → Linear g → Located (element g) y (2 ^ g .width) k →
-    Located (element g) y (modulus g) k
-located-modulus {g} v h = rw (modulus-linear g (v .width-low)) h
-
--- What the loop over the elements of an even multiplier holds: y is none of the first i.
-pub record Passing (g : Generator) (y x i : ℕ) : Type 0 where
-  pub within : i ≤ g .width + 1
-  pub held : x ≡ element g i
-  pub passed : (j : ℕ) → j < i → element g j ≡ y → ⊥
-
-pub passing-start : (g : Generator) (y : ℕ) → Passing g y (g .seed) 0
-passing-start g y =
-    record { within = omega arith; held = sym (element-start g); passed = λ j l. absurd (omega arith) }
-
-module _ {g : Generator} {y x i : ℕ} (p : Passing g y x i) where
-  pub passing-found : Linear g → i ≤ g .width → x ≡ y → Located (element g) y (modulus g) i
-  passing-found v l e =
-      located-modulus v
-      (record {
-        below = lt-of-le-of-lt l (lt-two-pow (g .width));
-        yields = sym (p .held) ∙ e;
-        first = λ j q. elim (decLe i j) [ yes h ↦ h | no f ↦ absurd (p .passed j (lt-of-not-le f) q) ];
-      })
-
-  pub passing-next : {after : ℕ} → i ≤ g .width → (x ≡ y → ⊥) → after ≡ step g x → Passing g y after (i + 1)
-  passing-next l d e =
-      record {
-        within = omega arith;
-        held = e ∙ ap (step g) (p .held) ∙ sym (element-next g i) ∙ ap (element g) (sym (add-one i));
-        passed = below-more _ _ (p .passed) (λ q. d (p .held ∙ q));
-      }
-
-  pub passing-never : (Linear g) × (g .multiplier % 2 ≡ 0) → g .width < i → Absent (element g) y
-  passing-never pre l =
-      let con = contracting (pre .0) (pre .1) in
-      let o = rest-orbit con (reduced (pre .0)) (resting con (reduced (pre .0)) .1) in
-      record { none = orbit-never (element-follows g) (o .1) (λ j b. p .passed j (omega (arith, o .0))) }
-
 -- A number of 2 ^ n or more is not yielded.
 pub wide-absent : {g : Generator} {y : ℕ} → Linear g → 2 ^ g .width ≤ y → Absent (element g) y
 wide-absent v l = record { none = λ i e. omega (arith, reduced v .below i) }

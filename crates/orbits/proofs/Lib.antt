@@ -3,7 +3,10 @@ pub mod Elements
 pub mod Searches
 pub mod Orbits
 pub mod Indices
+pub mod Occurrences
+pub mod Places
 pub mod SignedCounts
 pub mod Gaps
 mod GapExamples
+mod PlacesExamples
 pub mod WorkedRuns

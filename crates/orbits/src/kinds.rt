@@ -1,12 +1,13 @@
 // One door to the kinds of generator. A generator has to be accepted, and for a sighting its multiplier odd; nothing else
 // is asked of it.
 ghost use mathlib.Core.Path.{_≡_};
-ghost use Prim.Native.Nat.{_%_};
+ghost use Prim.Native.Nat.{_%_, _≤_};
 ghost use Rattle.generator.specs.Recurrence.{modulus, element};
 ghost use Rattle.generator.specs.Refusals.{refusalOf};
 ghost use Rattle.orbits.specs.Gap.{SightingIs};
 ghost use Rattle.orbits.specs.Index.{PositionIs};
 ghost use Rattle.orbits.specs.Orbit.{IsCycle};
+ghost use Rattle.orbits.specs.Places.{OccurrencesIs};
 use crate::linear;
 use generator::Generator;
 
@@ -25,6 +26,13 @@ pub struct Cycle {
 // Where a number stands on an orbit without a preperiod: its index, with the period less 1.
 pub enum Sighting {
     At { index: u64, last: u64 },
+    Never,
+}
+
+// The indices at which the low places of a sequence are a number: one only, or one and every 2^exponent further.
+pub enum Occurrences {
+    Once(u64),
+    Every { index: u64, exponent: u64 },
     Never,
 }
 
@@ -50,4 +58,12 @@ pub fn sighting_of(g: Generator, y: u64) -> Sighting
     ensures { λ r. ⌜ SightingIs g y r ⌝ }
 {
     linear::sighting(g, y)
+}
+
+// The indices whose elements agree with y in the lowest places.
+pub fn occurrences_of(g: Generator, places: u64, y: u64) -> Occurrences
+    requires { ⌜ (refusalOf g ≡ 0) × (1 ≤ places) × (places ≤ g .width) ⌝ }
+    ensures { λ r. ⌜ OccurrencesIs g places y r ⌝ }
+{
+    linear::occurrences(g, places, y)
 }

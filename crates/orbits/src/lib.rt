@@ -5,11 +5,13 @@ ghost use Rattle.generator.specs.Refusals.{checkNumber};
 ghost use Rattle.orbits.specs.Orbit.{OrbitPromise, orbitOf};
 ghost use Rattle.orbits.specs.Index.{IndexPromise, replyOf};
 ghost use Rattle.orbits.specs.Gap.{GapPromise, oddRefusal, gapRefusal, gapOf};
+ghost use Rattle.orbits.specs.Places.{PlacesPromise, rangeRefusal, placesRefusal, placesOf};
 use generator::Check;
 use generator::Generator;
 use generator::Refusal;
 use generator::checked;
 use generator::checks::or_else;
+use kinds::Occurrences;
 use kinds::Position;
 use kinds::Sighting;
 
@@ -36,6 +38,13 @@ pub enum GapAnswer {
     Refused(Refusal),
 }
 
+pub enum PlacesAnswer {
+    Once(u64),
+    Every { index: u64, exponent: u64 },
+    Never,
+    Refused(Refusal),
+}
+
 // The same in plain numbers: the refusal's number, 0 for none, and zeros beside a refusal.
 #[repr(C)]
 pub struct OrbitReply {
@@ -58,6 +67,16 @@ pub struct GapReply {
     pub refusal: u64,
     pub found: u64,
     pub steps: i64,
+}
+
+// found is 0 for never; recurs is 0 where no other index agrees, 1 where those every 2^exponent further do.
+#[repr(C)]
+pub struct PlacesReply {
+    pub refusal: u64,
+    pub found: u64,
+    pub index: u64,
+    pub recurs: u64,
+    pub exponent: u64,
 }
 
 // The preperiod and the period of a generator.
@@ -134,5 +153,44 @@ pub fn gap(g: Generator, from: u64, to: u64) -> GapAnswer
             GapAnswer::Steps(turns::signed(d, last))
         }
         Sighting::Never => GapAnswer::Never,
+    }
+}
+
+// The condition of the places call beside those of a generator.
+fn range_checked(g: Generator, places: u64) -> Check
+    ensures { λ r. ⌜ checkNumber r ≡ rangeRefusal g places ⌝ }
+{
+    if places == 0 {
+        return Check::Refused(Refusal::PlacesOutOfRange);
+    }
+    if g.width < places {
+        return Check::Refused(Refusal::PlacesOutOfRange);
+    }
+    Check::Accepted
+}
+
+// The conditions of the places call.
+fn places_checked(g: Generator, places: u64) -> Check
+    ensures { λ r. ⌜ checkNumber r ≡ placesRefusal g places ⌝ }
+{
+    let general = checked(g);
+    let range = range_checked(g, places);
+    or_else(general, range)
+}
+
+// The least index whose element agrees with `value` in the lowest places, and whether others do: none, or those every
+// 2^exponent further; or never.
+pub fn index_places(g: Generator, places: u64, value: u64) -> PlacesAnswer
+    ensures { λ r. ⌜ PlacesPromise g places value (placesOf r) ⌝ }
+{
+    let verdict = places_checked(g, places);
+    if let Check::Refused(refusal) = verdict {
+        return PlacesAnswer::Refused(refusal);
+    }
+    let found = kinds::occurrences_of(g, places, value);
+    match found {
+        Occurrences::Once(index) => PlacesAnswer::Once(index),
+        Occurrences::Every { index, exponent } => PlacesAnswer::Every { index, exponent },
+        Occurrences::Never => PlacesAnswer::Never,
     }
 }

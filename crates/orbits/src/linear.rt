@@ -1,23 +1,25 @@
 // Orbit and index of the linear kind. With an odd multiplier they are read off the search up the bit places; with an even one
 // the sequence comes to rest after at most n steps.
 ghost use mathlib.Core.Path.{_≡_};
-ghost use Prim.Native.Nat.{_%_, _^_, _≤_, _<_};
+ghost use Prim.Native.Nat.{_+_, _*_, _%_, _^_, _≤_, _<_};
 ghost use Rattle.sequences.specs.Orbit.{IsOrbit};
 ghost use Rattle.generator.specs.Recurrence.{modulus, element};
 ghost use Rattle.generator.specs.Affine.{Linear};
 ghost use Rattle.orbits.specs.Gap.{SightingIs};
 ghost use Rattle.orbits.specs.Index.{PositionIs};
 ghost use Rattle.orbits.specs.Orbit.{IsCycle};
+ghost use Rattle.orbits.specs.Places.{OccurrencesIs};
 use crate::kinds::Cycle;
+use crate::kinds::Occurrences;
 use crate::kinds::Position;
 use crate::kinds::Sighting;
 use crate::search::settle;
 use generator::Generator;
-use generator::linear::next;
 use generator::linear::once;
 use generator::linear::value_at;
 use words::alpha;
 use words::bits::exceeds;
+use words::bits::low_bits;
 use words::bits::ones;
 use words::first_difference;
 
@@ -62,50 +64,80 @@ pub fn cycle(g: Generator) -> Cycle
     }
 }
 
-// For an odd multiplier: y has an index if all n places can be settled.
-pub fn by_places(g: Generator, y: u64) -> Position
-    requires { ⌜ (Linear g) × (g .multiplier % 2 ≡ 1) × (y < 2 ^ g .width) ⌝ }
-    ensures { λ r. ⌜ PositionIs (element g) y (modulus g) r ⌝ }
+// For an odd multiplier: the number agrees from an index on every period of the low places, if all of them can be settled.
+pub fn by_places(g: Generator, places: u64, y: u64) -> Occurrences
+    requires { ⌜ (Linear g) × (g .multiplier % 2 ≡ 1) × (places ≤ g .width) × (y < 2 ^ places) ⌝ }
+    ensures { λ r. ⌜ OccurrencesIs g places y r ⌝ }
 {
-    let n = g.width;
-    let settled = settle(g, y, n);
-    let places = settled.places;
-    if places < n {
-        return Position::Never;
+    let settled = settle(g, y, places);
+    let reached = settled.places;
+    if reached < places {
+        return Occurrences::Never;
     }
-    Position::At(settled.index)
+    Occurrences::Every {
+        index: settled.index,
+        exponent: settled.exponent,
+    }
 }
 
-// For an even multiplier: the elements of the preperiod and the one that stays, at most n + 1 of them.
-pub fn by_steps(g: Generator, y: u64) -> Position
-    requires { ⌜ (Linear g) × (g .multiplier % 2 ≡ 0) ⌝ }
-    ensures { λ r. ⌜ PositionIs (element g) y (modulus g) r ⌝ }
+// The low places of the element one step after that whose low places are x.
+pub fn low_next(g: Generator, places: u64, x: u64) -> u64
+    requires { ⌜ (1 ≤ places) × (places ≤ 64) ⌝ }
+    ensures { λ r. ⌜ r ≡ (g .multiplier * x + g .increment) % 2 ^ places ⌝ }
 {
-    let n = g.width;
-    let mut x = g.seed;
+    low_bits(value_at(once(g), x), places)
+}
+
+// For an even multiplier: the low places of the elements up to the one that stays, at most places + 1 of them. What is found
+// comes again if it stays, and otherwise never.
+pub fn by_steps(g: Generator, places: u64, y: u64) -> Occurrences
+    requires { ⌜ (Linear g) × (g .multiplier % 2 ≡ 0) × (1 ≤ places) × (places ≤ g .width) ⌝ }
+    ensures { λ r. ⌜ OccurrencesIs g places y r ⌝ }
+{
+    let mut x = low_bits(g.seed, places);
     let mut i = 0;
-    while i <= n {
+    while i <= places {
+        let after = low_next(g, places, x);
         if x == y {
-            return Position::At(i);
+            if after == y {
+                return Occurrences::Every {
+                    index: i,
+                    exponent: 0,
+                };
+            }
+            return Occurrences::Once(i);
         }
-        x = next(g, x);
+        x = after;
         i += 1;
     }
-    Position::Never
+    Occurrences::Never
 }
 
-// The least index that yields y, if one does.
+// The indices whose elements agree with y in the lowest places.
+pub fn occurrences(g: Generator, places: u64, y: u64) -> Occurrences
+    requires { ⌜ (Linear g) × (1 ≤ places) × (places ≤ g .width) ⌝ }
+    ensures { λ r. ⌜ OccurrencesIs g places y r ⌝ }
+{
+    if exceeds(y, places) {
+        return Occurrences::Never;
+    }
+    if g.multiplier % 2 == 0 {
+        return by_steps(g, places, y);
+    }
+    by_places(g, places, y)
+}
+
+// The least index that yields y, if one does: the least that agrees in all n places.
 pub fn position(g: Generator, y: u64) -> Position
     requires { ⌜ Linear g ⌝ }
     ensures { λ r. ⌜ PositionIs (element g) y (modulus g) r ⌝ }
 {
-    if exceeds(y, g.width) {
-        return Position::Never;
+    let found = occurrences(g, g.width, y);
+    match found {
+        Occurrences::Once(index) => Position::At(index),
+        Occurrences::Every { index, exponent: _ } => Position::At(index),
+        Occurrences::Never => Position::Never,
     }
-    if g.multiplier % 2 == 0 {
-        return by_steps(g, y);
-    }
-    by_places(g, y)
 }
 
 // For an odd multiplier: where y stands, and the period less 1. Once all n places are settled the exponent is that of the

@@ -3,12 +3,15 @@ ghost use mathlib.Core.Path.{_≡_};
 ghost use Rattle.orbits.specs.Orbit.{orbitOf};
 ghost use Rattle.orbits.specs.Index.{replyOf};
 ghost use Rattle.orbits.specs.Gap.{gapOf};
+ghost use Rattle.orbits.specs.Places.{placesOf};
 use crate::GapAnswer;
 use crate::GapReply;
 use crate::IndexAnswer;
 use crate::IndexReply;
 use crate::OrbitAnswer;
 use crate::OrbitReply;
+use crate::PlacesAnswer;
+use crate::PlacesReply;
 use generator::refusal_number::number;
 
 pub fn of_orbit(answer: OrbitAnswer) -> OrbitReply
@@ -71,6 +74,41 @@ pub fn of_gap(answer: GapAnswer) -> GapReply
             refusal: number(refusal),
             found: 0,
             steps: 0,
+        },
+    }
+}
+
+pub fn of_places(answer: PlacesAnswer) -> PlacesReply
+    ensures { λ r. ⌜ r ≡ placesOf answer ⌝ }
+{
+    match answer {
+        PlacesAnswer::Once(index) => PlacesReply {
+            refusal: 0,
+            found: 1,
+            index,
+            recurs: 0,
+            exponent: 0,
+        },
+        PlacesAnswer::Every { index, exponent } => PlacesReply {
+            refusal: 0,
+            found: 1,
+            index,
+            recurs: 1,
+            exponent,
+        },
+        PlacesAnswer::Never => PlacesReply {
+            refusal: 0,
+            found: 0,
+            index: 0,
+            recurs: 0,
+            exponent: 0,
+        },
+        PlacesAnswer::Refused(refusal) => PlacesReply {
+            refusal: number(refusal),
+            found: 0,
+            index: 0,
+            recurs: 0,
+            exponent: 0,
         },
     }
 }

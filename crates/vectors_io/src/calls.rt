@@ -15,10 +15,12 @@ use lines::plain::of_run;
 use orbits::plain::of_gap;
 use orbits::plain::of_index;
 use orbits::plain::of_orbit;
+use orbits::plain::of_places;
 
 // The reply to a call. A call with too few or too many numbers is none.
 pub fn reply(letter: u8, n: &[u64]) -> Reply {
     match letter {
+        b'B' => index_places(n),
         b'C' => customary_multiplier(n),
         b'E' => element(n),
         b'F' => archives::reply(letter, n),
@@ -78,6 +80,14 @@ fn index(n: &[u64]) -> Reply {
     }
     let r = of_index(orbits::index(generator_of(n), n[4]));
     Reply::Three(r.refusal, r.found, r.index)
+}
+
+fn index_places(n: &[u64]) -> Reply {
+    if n.len() != 6 {
+        return Reply::Unreadable;
+    }
+    let r = of_places(orbits::index_places(generator_of(n), n[4], n[5]));
+    Reply::Five(r.refusal, r.found, r.index, r.recurs, r.exponent)
 }
 
 fn orbit(n: &[u64]) -> Reply {

@@ -10,6 +10,7 @@ pub enum Reply {
     Two(u64, u64),
     Three(u64, u64, u64),
     Four(u64, u64, u64, u64),
+    Five(u64, u64, u64, u64, u64),
     Seven(u64, u64, u64, u64, u64, u64, u64),
 }
 
@@ -23,6 +24,7 @@ pub fn write(out: &mut [u8], at: usize, reply: Reply) -> usize
         Reply::Two(a, b) => write_numbers(out, at, &[a, b]),
         Reply::Three(a, b, c) => write_numbers(out, at, &[a, b, c]),
         Reply::Four(a, b, c, d) => write_numbers(out, at, &[a, b, c, d]),
+        Reply::Five(a, b, c, d, e) => write_numbers(out, at, &[a, b, c, d, e]),
         Reply::Seven(a, b, c, d, e, f, g) => write_numbers(out, at, &[a, b, c, d, e, f, g]),
     }
 }

@@ -1,0 +1,117 @@
+-- The indices at which the elements of a linear generator agree with a number in their low m places. With an odd multiplier
+-- they are read off the search, stopped at m places. With an even one the low places of the elements up to index m are
+-- passed, and every value of theirs is among these; what comes again stays, so the next element tells how it goes on.
+use mathlib.Core.Path.{_≡_, refl, sym, ap, _∙_}
+use Prim.Native.Nat.{ℕ, zero, suc, _+_, _*_, _%_, _^_, _≤_, _<_}
+use native.Mathlib.Nat.{lt-of-le-of-lt, lt-of-lt-of-le, lt-of-not-le}
+use native.Mathlib.Decide.{decLe}
+use native.Mathlib.Numerals.{add-one}
+use native.Mathlib.Omega.{arith}
+use lib.Pow.{pow-mono}
+use borrow.Author.Count.{below-more}
+use Rattle.words.proofs.Congruence.{Congruent, same-refl, same-sym, same-trans, same-mod, same-add, same-scale, mod-lower}
+use Rattle.sequences.specs.Index.{Located, Absent}
+use Rattle.sequences.specs.Places.{Settles}
+use Rattle.sequences.specs.Occurrences.{low}
+use Rattle.sequences.proofs.LowPlaces.{low-is, low-reduced, low-contracting, contracting-follows, low-recurring}
+use Rattle.sequences.proofs.Occurrences.{rests-recurring, moves-alone}
+use Rattle.sequences.proofs.Orbits.{orbit-never}
+use Rattle.sequences.proofs.Contracting.{Contracting, resting, rest-orbit}
+use Rattle.generator.specs.declared.Generator.{Generator}
+use Rattle.generator.specs.Recurrence.{modulus, element}
+use Rattle.generator.specs.declared.linear.Affine.{Affine}
+use Rattle.generator.specs.Affine.{Linear, onceOf, apply}
+use Rattle.generator.proofs.Elements.{element-start}
+use Rattle.generator.proofs.Refusals.{modulus-linear}
+use Rattle.orbits.specs.declared.kinds.Occurrences.the-variants.{Once, Every, Never}
+use Rattle.orbits.specs.Places.{OccurrencesIs}
+use Rattle.orbits.proofs.Elements.{isometric, contracting, next-place}
+use Rattle.orbits.proofs.Orbits.{lt-two-pow}
+
+-- m places have room below the modulus
+pub places-room : {g : Generator} {m : ℕ} → Linear g → m ≤ g .width → 2 ^ m ≤ modulus g
+places-room {g} v l = rw (modulus-linear g (v .width-low)) (pow-mono l)
+
+-- what the search hands back, once m places are settled
+pub settled-every : {g : Generator} {m y p k e : ℕ} →
+    (Linear g) × (g .multiplier % 2 ≡ 1) × (m ≤ g .width) × (y < 2 ^ m) → Settles (element g) y m p k e → m ≤ p →
+    OccurrencesIs g m y (Every k e)
+settled-every {m = m} pre s all =
+    low-recurring m (pre .2) s (isometric (pre .0) (pre .1)) all (pre .3) (places-room (pre .0) (pre .2))
+
+-- the map of one step, as the machine reckons modulo 2 ^ 64, in m places
+pub low-once : {once : Affine} {r : ℕ} (g : Generator) (m x : ℕ) → m ≤ 64 → once ≡ onceOf g →
+    r ≡ apply once x % 2 ^ 64 → r % 2 ^ m ≡ (g .multiplier * x + g .increment) % 2 ^ m
+low-once g m x l eo er = rw (er, eo) (mod-lower 64 m (apply (onceOf g) x) l)
+
+-- a step of the low places
+low-step : {g : Generator} {m x after : ℕ} (i : ℕ) → Linear g → m ≤ g .width → x ≡ low m (element g) i →
+    after ≡ (g .multiplier * x + g .increment) % 2 ^ m → after ≡ low m (element g) (suc i)
+low-step {g} {m} {x} i v l held e = e ∙ same .same ∙ sym (low-is m (element g) (suc i))
+  where
+    here : Congruent (2 ^ m) x (element g i)
+    here = rw (held, low-is m (element g) i) (same-mod (2 ^ m) (element g i))
+
+    same : Congruent (2 ^ m) (g .multiplier * x + g .increment) (element g (suc i))
+    same = same-trans (same-add (same-scale (g .multiplier) here) (same-refl _ (g .increment))) (same-sym (next-place v m i l))
+
+-- What the loop over the elements of an even multiplier holds: y is none of the first i, in m places.
+pub record Passing (g : Generator) (m y x i : ℕ) : Type 0 where
+  pub within : i ≤ m + 1
+  pub held : x ≡ low m (element g) i
+  pub passed : (j : ℕ) → j < i → low m (element g) j ≡ y → ⊥
+
+pub passing-start : (g : Generator) (m y : ℕ) {x : ℕ} → x ≡ g .seed % 2 ^ m → Passing g m y x 0
+passing-start g m y e =
+    record {
+      within = omega arith;
+      held = e ∙ ap (λ (u : ℕ). u % 2 ^ m) (sym (element-start g)) ∙ sym (low-is m (element g) 0);
+      passed = λ j l. absurd (omega arith);
+    }
+
+module _ {g : Generator} {m y x i : ℕ}
+    (pre : (Linear g) × (g .multiplier % 2 ≡ 0) × (1 ≤ m) × (m ≤ g .width)) (p : Passing g m y x i) where
+  low-contracts : Contracting m (low m (element g))
+  low-contracts = low-contracting m (pre .3) (contracting (pre .0) (pre .1))
+
+  room : m < modulus g
+  room = lt-of-lt-of-le (lt-two-pow m) (places-room (pre .0) (pre .3))
+
+  pub passing-never : m < i → Absent (low m (element g)) y
+  passing-never l =
+      let o = rest-orbit low-contracts (low-reduced m (element g)) (resting low-contracts (low-reduced m (element g)) .1) in
+      record {
+        none =
+            orbit-never (contracting-follows m (pre .3) (contracting (pre .0) (pre .1))) (o .1)
+            (λ j b. p .passed j (omega (arith, o .0)));
+      }
+
+  module _ {after : ℕ} (l : i ≤ m) (e : after ≡ (g .multiplier * x + g .increment) % 2 ^ m) where
+    after-held : after ≡ low m (element g) (suc i)
+    after-held = low-step i (pre .0) (pre .3) (p .held) e
+
+    found : x ≡ y → Located (low m (element g)) y (modulus g) i
+    found q =
+        record {
+          below = lt-of-le-of-lt l room;
+          yields = sym (p .held) ∙ q;
+          first = λ j h. elim (decLe i j) [ yes b ↦ b | no f ↦ absurd (p .passed j (lt-of-not-le f) h) ];
+        }
+
+    pub passing-stays : x ≡ y → after ≡ y → OccurrencesIs g m y (Every i 0)
+    passing-stays q a = (
+      omega arith,
+      rests-recurring low-contracts (low-reduced m (element g)) room (found q) (sym after-held ∙ a),
+    )
+
+    pub passing-moves : x ≡ y → (after ≡ y → ⊥) → OccurrencesIs g m y (Once i)
+    passing-moves q d =
+        moves-alone low-contracts (low-reduced m (element g)) room (found q) (λ h. d (after-held ∙ h))
+
+    pub passing-next : (x ≡ y → ⊥) → Passing g m y after (i + 1)
+    passing-next d =
+        record {
+          within = omega arith;
+          held = after-held ∙ ap (low m (element g)) (sym (add-one i));
+          passed = below-more _ _ (p .passed) (λ q. d (p .held ∙ q));
+        }

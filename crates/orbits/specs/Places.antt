@@ -1,0 +1,90 @@
+-- The indices of a generator whose elements agree with a number in the lowest m places, when no more of it is legible
+-- (document 02, note 3; SCOPE 3.8).
+use mathlib.Core.Path.{_≡_}
+use mathlib.Core.Bool.{cond, _||_}
+use mathlib.Core.Logic.{_↔_}
+use Prim.Native.Nat.{ℕ, zero, suc, _%_, _^_, _≤_}
+use lib.Dec.{eqb, ltb}
+use Rattle.sequences.specs.Index.{indexOf, Absent}
+use Rattle.sequences.specs.Orbit.{returnOf, preperiodOf}
+use Rattle.sequences.specs.Occurrences.{low, AllIndices, Alone, Recurring}
+use Rattle.generator.specs.declared.Generator.{Generator}
+use Rattle.generator.specs.Recurrence.{modulus, element}
+use Rattle.generator.specs.Refusals.{numberOf, orElse, refusalOf}
+use Rattle.orbits.specs.declared.IndexReply.{IndexReply}
+use Rattle.orbits.specs.declared.PlacesAnswer.{PlacesAnswer}
+use Rattle.orbits.specs.declared.PlacesAnswer.the-variants as answer
+use Rattle.orbits.specs.declared.PlacesReply.{PlacesReply}
+use Rattle.orbits.specs.declared.kinds.Occurrences.{Occurrences}
+use Rattle.orbits.specs.declared.kinds.Occurrences.the-variants as occurrences
+use Rattle.orbits.specs.Orbit.{exponentOf}
+use Rattle.orbits.specs.Index.{IndexPromise}
+
+-- 9: no places, or more than the width has.
+unfoldable pub rangeRefusal : Generator → ℕ → ℕ
+rangeRefusal g m = cond (eqb m 0 || ltb (g .width) m) 9 0
+
+-- 3 and 4, and after them 9.
+unfoldable pub placesRefusal : Generator → ℕ → ℕ
+placesRefusal g m = orElse (refusalOf g) (rangeRefusal g m)
+
+-- In plain numbers: the only index that agrees; an index that agrees and with it those every 2 ^ e further; never; a refusal.
+abbrev pub onceReply : ℕ → PlacesReply
+onceReply k = record { refusal = 0; found = 1; index = k; recurs = 0; exponent = 0 }
+
+abbrev pub everyReply : ℕ → ℕ → PlacesReply
+everyReply k e = record { refusal = 0; found = 1; index = k; recurs = 1; exponent = e }
+
+abbrev pub neverReply : PlacesReply
+neverReply = record { refusal = 0; found = 0; index = 0; recurs = 0; exponent = 0 }
+
+abbrev pub refusedReply : ℕ → PlacesReply
+refusedReply n = record { refusal = n; found = 0; index = 0; recurs = 0; exponent = 0 }
+
+-- The reply for a refusal's number, 0 for none; an index below the bound, or the bound itself, which stands for never; and the
+-- number of indices between it and the least later one, below the bound, or the bound itself, which stands for no later one.
+abbrev pub placesReply : ℕ → ℕ → ℕ → ℕ → PlacesReply
+placesReply zero bound k between =
+    cond (ltb k bound) (cond (ltb between bound) (everyReply k (exponentOf (suc between))) (onceReply k)) neverReply
+placesReply (suc n) bound k between = refusedReply (suc n)
+
+-- What an answer says.
+abbrev pub placesOf : PlacesAnswer → PlacesReply
+placesOf (answer.Once k) = onceReply k
+placesOf (answer.Every k e) = everyReply k e
+placesOf answer.Never = neverReply
+placesOf (answer.Refused r) = refusedReply (numberOf r)
+
+-- The promise of the call. The reply is that of the definitions: the least index whose element agrees, and the least later
+-- one that does, which is the first return of the low places there. An accepted reply gives all indices that agree, however
+-- large. An index recurs exactly from the preperiod of the low places on: with an odd multiplier always, and with an even one
+-- at every further index.
+pub record PlacesPromise (g : Generator) (m y : ℕ) (reply : PlacesReply) : Type 0 where
+  pub equals :
+      let x = low m (element g) in
+      let k = indexOf x (modulus g) y in
+      reply ≡ placesReply (placesRefusal g m) (modulus g) k (returnOf x (modulus g) k)
+  pub meaning :
+      reply .refusal ≡ 0 →
+      AllIndices (low m (element g)) y (reply .found) (reply .index) (reply .recurs) (2 ^ reply .exponent)
+  pub recurring :
+      reply .found ≡ 1 → (reply .recurs ≡ 1) ↔ (preperiodOf (low m (element g)) (modulus g) ≤ reply .index)
+  pub odd : reply .found ≡ 1 → g .multiplier % 2 ≡ 1 → reply .recurs ≡ 1
+  pub even : reply .found ≡ 1 → g .multiplier % 2 ≡ 0 → reply .exponent ≡ 0
+  pub within : reply .exponent ≤ m
+
+-- The index call is the case of all n places: whatever the two calls reply, the refusal, found and the index are the same.
+-- `index-is-places` in proofs/ is the proof.
+abbrev pub indexPart : PlacesReply → IndexReply
+indexPart reply = record { refusal = reply .refusal; found = reply .found; index = reply .index }
+
+abbrev pub IndexIsPlaces : Type 0
+IndexIsPlaces =
+    (g : Generator) (y : ℕ) (reply : IndexReply) (all : PlacesReply) → IndexPromise g y reply →
+    PlacesPromise g (g .width) y all → reply ≡ indexPart all
+
+-- For the functions behind the call: the indices at which the elements' low m places are y.
+abbrev pub OccurrencesIs : Generator → ℕ → ℕ → Occurrences → Type 0
+OccurrencesIs g m y (occurrences.Once k) = Alone (low m (element g)) y (modulus g) k
+OccurrencesIs g m y (occurrences.Every k e) = (e ≤ m) × Recurring (low m (element g)) y (modulus g) k (2 ^ e)
+OccurrencesIs g m y occurrences.Never = Absent (low m (element g)) y

@@ -24,7 +24,7 @@
 extern "C" {
 #endif
 
-#define NP_VERSION "0.6.1"
+#define NP_VERSION "0.7.0"
 
 #define NP_LINE_MAX 107       /* no line of a run is longer, its byte 10 included */
 #define NP_ARCHIVE_MAX 65536  /* no accepted archive is longer */
@@ -40,7 +40,8 @@ enum {
     NP_REFUSED_RUN_OUT_OF_RANGE = 5,      /* count 0, or first + count above 2^64 - 1 */
     NP_REFUSED_VALUE_OUT_OF_RANGE = 6,    /* predecessor of a value of 2^width or more */
     NP_REFUSED_NOT_INVERTIBLE = 7,        /* predecessor or gap with an even multiplier */
-    NP_REFUSED_BUFFER_TOO_SHORT = 8       /* the buffer is shorter than the line */
+    NP_REFUSED_BUFFER_TOO_SHORT = 8,      /* the buffer is shorter than the line */
+    NP_REFUSED_PLACES_OUT_OF_RANGE = 9    /* 0 places, or more than the width has */
 };
 
 typedef struct { uint64_t width, multiplier, increment, seed; } np_generator;
@@ -49,6 +50,8 @@ typedef struct { np_generator generator; uint64_t first, count; } np_run;
 typedef struct { uint64_t refusal, value; } np_value;
 typedef struct { uint64_t refusal, preperiod, exponent; } np_orbit_reply;
 typedef struct { uint64_t refusal, found, index; } np_index_reply;            /* found 0: never */
+/* found 0: never; recurs 0: at index only; 1: there and every 2^exponent further */
+typedef struct { uint64_t refusal, found, index, recurs, exponent; } np_places_reply;
 typedef struct { uint64_t refusal, found; int64_t steps; } np_gap_reply;      /* found 0: never */
 typedef struct { uint64_t refusal; np_run run; } np_run_reply;
 typedef struct { uint64_t refusal, line, found, position; } np_lookup_reply;  /* found 0, refusal 0: none */
@@ -64,6 +67,13 @@ np_orbit_reply  np_orbit(np_generator g);
 
 /* The least index that yields the value (found 1), or never (found 0). Refusals 3, 4. */
 np_index_reply  np_index(np_generator g, uint64_t value);
+
+/* The least index at which the element's lowest `places` bits, the element modulo 2^places, are the
+ * value (found 1), or never (found 0); a value of 2^places or more is never. With recurs 0 they are
+ * it at that index and at no other, and exponent is 0; with recurs 1 at index + t * 2^exponent for
+ * every t from 0 on and at no other, and exponent is 0 to 64. With places = width, found and index
+ * are those of np_index. Refusals 3, 4, 9. */
+np_places_reply np_index_places(np_generator g, uint64_t places, uint64_t value);
 
 /* The steps from one number of the sequence to another (found 1), or never (found 0) if either of
  * them is at no index. With P the period, steps is the d with -P <= 2 d < P such that d single
@@ -115,6 +125,7 @@ static inline const char *np_refusal_text(uint64_t refusal)
     case NP_REFUSED_VALUE_OUT_OF_RANGE: return "the value is 2^width or more";
     case NP_REFUSED_NOT_INVERTIBLE: return "the multiplier is even: a predecessor or a gap needs an odd one";
     case NP_REFUSED_BUFFER_TOO_SHORT: return "the buffer is shorter than the line";
+    case NP_REFUSED_PLACES_OUT_OF_RANGE: return "the number of places is 0 or above the width";
     default: return "no refusal has this number";
     }
 }

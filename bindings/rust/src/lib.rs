@@ -96,6 +96,17 @@ pub enum Index {
     Never,
 }
 
+/// Where a value occurs in the lowest bits of the elements of a sequence that has no end.
+#[derive(Clone, Copy, Debug, PartialEq, Eq, Hash)]
+pub enum Occurrences {
+    /// At this index and at no other.
+    Once(u64),
+    /// At this index and every 2^`exponent` indices further, and at no other; `exponent` is 0 to 64.
+    Every { index: u64, exponent: u64 },
+    /// At no index, however large.
+    Never,
+}
+
 /// How many steps lead from one number of a sequence to another.
 #[derive(Clone, Copy, Debug, PartialEq, Eq, Hash)]
 pub enum Gap {
@@ -162,6 +173,37 @@ pub fn orbit(g: Generator) -> Result<Orbit, Refusal> {
 pub fn index(g: Generator, value: u64) -> Result<Index, Refusal> {
     let raw::IndexReply { refusal, found, index } = raw::index(g, value);
     Refusal::of(refusal).map(|()| if found == 0 { Index::Never } else { Index::At(index) })
+}
+
+/// The least index at which the element's lowest `places` bits, the element modulo 2^`places`, are the
+/// value, and at which others they are it; or never, as for every value of 2^`places` or more. With
+/// `places` = `width` the least index is that of [`index`].
+///
+/// ```
+/// use noonpasture::{index, index_places, Generator, Index, Occurrences, Refusal};
+///
+/// let g = Generator { width: 4, multiplier: 5, increment: 3, seed: 1 };
+/// assert_eq!(index_places(g, 2, 3), Ok(Occurrences::Every { index: 2, exponent: 2 }));
+/// assert_eq!(index_places(g, 2, 4), Ok(Occurrences::Never));
+/// assert_eq!(index_places(g, 4, 6), Ok(Occurrences::Every { index: 15, exponent: 4 }));
+/// assert_eq!(index(g, 6), Ok(Index::At(15)));
+/// assert_eq!(index_places(g, 0, 3), Err(Refusal::PlacesOutOfRange));
+/// assert_eq!(index_places(g, 5, 3), Err(Refusal::PlacesOutOfRange));
+///
+/// // 1, 2, 4, 8, 0, 0 and so on.
+/// let even = Generator { width: 4, multiplier: 2, increment: 0, seed: 1 };
+/// assert_eq!(index_places(even, 2, 1), Ok(Occurrences::Once(0)));
+/// assert_eq!(index_places(even, 2, 0), Ok(Occurrences::Every { index: 2, exponent: 0 }));
+/// assert_eq!(index_places(even, 2, 3), Ok(Occurrences::Never));
+/// ```
+#[inline]
+pub fn index_places(g: Generator, places: u64, value: u64) -> Result<Occurrences, Refusal> {
+    let raw::PlacesReply { refusal, found, index, recurs, exponent } = raw::index_places(g, places, value);
+    Refusal::of(refusal).map(|()| match (found, recurs) {
+        (0, _) => Occurrences::Never,
+        (_, 0) => Occurrences::Once(index),
+        _ => Occurrences::Every { index, exponent },
+    })
 }
 
 /// The steps that lead from one number of the sequence to another, or never if either of them is at

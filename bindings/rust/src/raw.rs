@@ -27,6 +27,17 @@ pub struct IndexReply {
     pub index: u64,
 }
 
+/// `found` is 0 for never; `recurs` is 0 for `index` only, 1 for there and every 2^`exponent` further.
+#[repr(C)]
+#[derive(Clone, Copy, Debug, Default, PartialEq, Eq)]
+pub struct PlacesReply {
+    pub refusal: u64,
+    pub found: u64,
+    pub index: u64,
+    pub recurs: u64,
+    pub exponent: u64,
+}
+
 /// `found` is 0 for never.
 #[repr(C)]
 #[derive(Clone, Copy, Debug, Default, PartialEq, Eq)]
@@ -68,6 +79,7 @@ mod foreign {
         pub fn np_element(g: Generator, index: u64) -> Value;
         pub fn np_orbit(g: Generator) -> OrbitReply;
         pub fn np_index(g: Generator, value: u64) -> IndexReply;
+        pub fn np_index_places(g: Generator, places: u64, value: u64) -> PlacesReply;
         pub fn np_gap(g: Generator, from: u64, to: u64) -> GapReply;
         pub fn np_predecessor(g: Generator, value: u64) -> Value;
         pub fn np_customary_multiplier(width: u64) -> Value;
@@ -95,6 +107,11 @@ pub fn orbit(g: Generator) -> OrbitReply {
 #[inline]
 pub fn index(g: Generator, value: u64) -> IndexReply {
     unsafe { foreign::np_index(g, value) }
+}
+
+#[inline]
+pub fn index_places(g: Generator, places: u64, value: u64) -> PlacesReply {
+    unsafe { foreign::np_index_places(g, places, value) }
 }
 
 #[inline]

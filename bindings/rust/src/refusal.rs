@@ -16,11 +16,12 @@ pub enum Refusal {
     ValueOutOfRange,
     NotInvertible,
     BufferTooShort,
+    PlacesOutOfRange,
 }
 
 impl Refusal {
     /// All of them, in the order of their numbers, which begin with 1.
-    pub const ALL: [Refusal; 8] = [
+    pub const ALL: [Refusal; 9] = [
         Refusal::ArchiveTooLong,
         Refusal::MalformedLine,
         Refusal::WidthOutOfRange,
@@ -29,6 +30,7 @@ impl Refusal {
         Refusal::ValueOutOfRange,
         Refusal::NotInvertible,
         Refusal::BufferTooShort,
+        Refusal::PlacesOutOfRange,
     ];
 
     /// ```
@@ -60,6 +62,7 @@ impl Display for Refusal {
             Refusal::ValueOutOfRange => "the value is 2^width or more",
             Refusal::NotInvertible => "the multiplier is even: a predecessor or a gap needs an odd one",
             Refusal::BufferTooShort => "the buffer is shorter than the line",
+            Refusal::PlacesOutOfRange => "the number of places is 0 or above the width",
         })
     }
 }

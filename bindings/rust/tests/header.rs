@@ -6,7 +6,7 @@ use std::mem::{offset_of, size_of};
 use std::path::Path;
 use std::process::Command;
 
-use noonpasture::raw::{GapReply, IndexReply, LookupReply, OrbitReply, Part, RunReply, Value};
+use noonpasture::raw::{GapReply, IndexReply, LookupReply, OrbitReply, Part, PlacesReply, RunReply, Value};
 use noonpasture::{Generator, Refusal, Run, ARCHIVE_MAX, LINE_MAX, VERSION};
 
 /// A text of the C program, the printf format of what it gives, and what that has to be.
@@ -52,6 +52,7 @@ fn facts() -> Vec<Fact> {
     layout!(facts, "np_value", Value { refusal, value });
     layout!(facts, "np_orbit_reply", OrbitReply { refusal, preperiod, exponent });
     layout!(facts, "np_index_reply", IndexReply { refusal, found, index });
+    layout!(facts, "np_places_reply", PlacesReply { refusal, found, index, recurs, exponent });
     layout!(facts, "np_gap_reply", GapReply { refusal, found, steps });
     facts.push(number("((np_gap_reply){0, 0, -1}).steps < 0".into(), 1));
     layout!(facts, "np_run_reply", RunReply { refusal, run });

@@ -4,18 +4,19 @@
 
 The file stdin has one call a line, as decimal numbers separated by commas behind the call's letter:
 
-    E  element               width, multiplier, increment, seed, index     refusal, value
-    O  orbit                 width, multiplier, increment, seed            refusal, preperiod, exponent
-    I  index                 width, multiplier, increment, seed, number    refusal, found, index
-    G  gap                   width, multiplier, increment, seed, from, to  refusal, found, backward, steps
-    P  predecessor           width, multiplier, increment, seed, number    refusal, value
-    C  customary multiplier  width                                         refusal, value
-    V  variety               the six numbers of a run                      refusal, value
-    W  write line            the six numbers of a run, buffer's length     refusal, length
-    R  read line             count of bytes, the bytes                     refusal, the six numbers
-    L  line                  number, count of bytes, the bytes             start, length
-    F  lookup (find)         number, count of bytes, the bytes             refusal, line, found, position
-    M  remake                the six numbers of a run, position, lent      refusal, count, 5 numbers
+    E  element               width, multiplier, increment, seed, index           refusal, value
+    O  orbit                 width, multiplier, increment, seed                  refusal, preperiod, exponent
+    I  index                 width, multiplier, increment, seed, number          refusal, found, index
+    B  index by low bits     width, multiplier, increment, seed, places, number  refusal, found, index, recurs, exponent
+    G  gap                   width, multiplier, increment, seed, from, to        refusal, found, backward, steps
+    P  predecessor           width, multiplier, increment, seed, number          refusal, value
+    C  customary multiplier  width                                               refusal, value
+    V  variety               the six numbers of a run                            refusal, value
+    W  write line            the six numbers of a run, buffer's length           refusal, length
+    R  read line             count of bytes, the bytes                           refusal, the six numbers
+    L  line                  number, count of bytes, the bytes                   start, length
+    F  lookup (find)         number, count of bytes, the bytes                   refusal, line, found, position
+    M  remake                the six numbers of a run, position, lent            refusal, count, 5 numbers
 
 The file stdout has the reply to each, the numbers on the right. No call has more than 250 numbers.
 G's backward is 1 if steps lead back, and else 0, so that all fields are plain numbers.
@@ -43,6 +44,7 @@ REPLY = {
     "E": ref.element,
     "O": ref.orbit,
     "I": ref.index,
+    "B": ref.index_places,
     "G": gap_reply,
     "P": ref.predecessor,
     "C": ref.customary_multiplier,
@@ -443,10 +445,75 @@ def gap_calls():
             yield "G", (*g, start, end)
 
 
+# For the low bits: even multipliers and long preperiods.
+LONG_PREPERIODS = (64, 2, 1, 1), (64, 6, 1, 1), (64, TOP - 1, 2**20, 77), (33, 10, 3, 0)
+
+
+def refused_places():
+    """Width or operand refused, beside numbers of places that are out of range and not; numbers of
+    places refused by themselves, and 64, which at width 64 is not."""
+    for width in REFUSED_WIDTHS:
+        for operands, m in product(((0, 0, 0), (TOP, TOP, TOP)), (0, 1)):
+            yield (width, *operands), m, 0
+    for g in ((4, 16, 3, 1), (4, 17, 3, 1), (4, 5, 16, 1), (4, 6, 16, 1), (4, 5, 3, 16), (4, 6, 3, TOP)):
+        for m in (0, 1, 4, 5, TOP):
+            yield g, m, 1
+    for g in ((1, 1, 1, 0), (1, 0, 1, 0), (4, 5, 3, 1), (4, 6, 1, 1), (63, 5, 3, 1), (64, 5, 3, 1), (64, 6, 1, 1)):
+        for m in (0, g[0] + 1, 64, 65, 2**32, 2**63, TOP):
+            yield g, m, pick((0, g[3], 1, TOP))
+
+
+def worked_places():
+    """Every number of every length on three of document 01's generators; some on its wider one."""
+    for g in ((4, 5, 3, 1), (4, 2, 0, 1), (4, 6, 1, 1)):
+        for m in range(1, 5):
+            for y in range(2**m + 1):
+                yield g, m, y
+    for m, y in product((1, 2, 5, 8, 9, 10), (49, 985, 75)):
+        yield (10, 371, 995, 73), m, y % 2**m
+
+
+def places_at_the_preperiod():
+    """The last low bits that are at one index only, and those that stay."""
+    for g in LONG_PREPERIODS:
+        for m in (1, 2, 31, g[0] - 1, g[0]):
+            t = ref.orbit(*ref.low_bits(ref.Generator(*g), m))[1]
+            for i in (max(t - 1, 0), t):
+                yield g, m, ref.element(*g, i)[1] % 2**m
+
+
+def wide_places():
+    """The low bits of elements at width 64, near the seed and anywhere; the same with one bit changed."""
+    for g in WIDE:
+        for m in (1 + below(64), 32, 63, 64):
+            shown = ref.element(*g, pick((0, 1, 2, below(40), below(2**64), TOP)))[1] % 2**m
+            yield g, m, pick((shown, shown ^ 1 << below(m)))
+
+
+def low_number(g, m):
+    """The low bits of an element, often one of the first; near them, anywhere, or too wide."""
+    shown = ref.element(*g, pick((an_index(g[0]), below(g[0] + 2))))[1]
+    low = shown % 2**m
+    near = low ^ 1 << below(m)
+    return pick((low, low, low, near, below(2**m), shown, min(2**m + below(2), TOP)))
+
+
+def random_places():
+    for g in generators():
+        m = pick((1, g[0], 1 + below(g[0]), 1 + below(g[0])))
+        yield g, m, low_number(g, m)
+
+
+def places_calls():
+    for part in (refused_places, worked_places, places_at_the_preperiod, wide_places, random_places):
+        for g, m, number in part():
+            yield "B", (*g, m, number)
+
+
 def all_calls():
     refused = refused_generators, refused_runs, one_way, refused_archives
     accepted = long_sequences, wide_calls, printed_tables, valid_calls, reading_calls, archive_calls, remaking_calls
-    parts = bounds, *refused, *accepted, gap_calls
+    parts = bounds, *refused, *accepted, gap_calls, places_calls
     return dict.fromkeys((code, tuple(args)) for part in parts for code, args in part())
 
 

@@ -125,6 +125,11 @@ static void print_index(np_index_reply r)
     print(3, r.refusal, r.found, r.index);
 }
 
+static void print_places(np_places_reply r)
+{
+    print(5, r.refusal, r.found, r.index, r.recurs, r.exponent);
+}
+
 /* A negative count of steps as 1 and its absolute value, which for -2^63 only a uint64_t holds. */
 static void print_gap(np_gap_reply r)
 {
@@ -172,6 +177,7 @@ int main(void)
         case 'E': print_value(np_element(generator(), numbers[4])); break;
         case 'O': print_orbit(np_orbit(generator())); break;
         case 'I': print_index(np_index(generator(), numbers[4])); break;
+        case 'B': print_places(np_index_places(generator(), numbers[4], numbers[5])); break;
         case 'G': print_gap(np_gap(generator(), numbers[4], numbers[5])); break;
         case 'P': print_value(np_predecessor(generator(), numbers[4])); break;
         case 'C': print_value(np_customary_multiplier(numbers[0])); break;

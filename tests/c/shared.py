@@ -13,25 +13,30 @@ def struct(*names, **more):
 
 Generator = struct("width", "multiplier", "increment", "seed")
 Value = struct("refusal", "value")
+PlacesReply = struct("refusal", "found", "index", "recurs", "exponent")
 GapReply = struct("refusal", "found", steps=c_int64)
 LookupReply = struct("refusal", "line", "found", "position")
 
 library = ctypes.CDLL(sys.argv[1])
 library.np_element.argtypes = Generator, c_uint64
 library.np_element.restype = Value
+library.np_index_places.argtypes = Generator, c_uint64, c_uint64
+library.np_index_places.restype = PlacesReply
 library.np_gap.argtypes = Generator, c_uint64, c_uint64
 library.np_gap.restype = GapReply
 library.np_lookup.argtypes = ctypes.c_char_p, c_size_t, c_uint64
 library.np_lookup.restype = LookupReply
 
 element = library.np_element(Generator(10, 371, 995, 73), 1000)
+places = library.np_index_places(Generator(10, 371, 995, 73), 9, 985 % 512)
 gap = library.np_gap(Generator(10, 371, 995, 73), 49, 985)
 archive = b"4,5,3,1,0,16\n10,371,995,73,100,8\n"
 found = library.np_lookup(archive, len(archive), 49)
 nothing = library.np_lookup(None, 0, 49)
 
 assert (element.refusal, element.value) == (0, 985)
+assert (places.refusal, places.found, places.index, places.recurs, places.exponent) == (0, 1, 232, 1, 8)
 assert (gap.refusal, gap.found, gap.steps) == (0, 1, -124)
 assert (found.refusal, found.line, found.found, found.position) == (0, 2, 1, 0)
 assert (nothing.refusal, nothing.line, nothing.found, nothing.position) == (0, 0, 0, 0)
-print("shared library: 4 calls from Python")
+print("shared library: 5 calls from Python")

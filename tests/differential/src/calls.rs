@@ -1,6 +1,8 @@
 //! The arguments and replies of the calls, and what the implementations beside the library share.
 
-pub use noonpasture::raw::{GapReply, IndexReply, LookupReply, OrbitReply, Part, RunReply, Value};
+pub use noonpasture::raw::{
+    GapReply, IndexReply, LookupReply, OrbitReply, Part, PlacesReply, RunReply, Value,
+};
 pub use noonpasture::{Generator, Run};
 
 pub const ARCHIVE_TOO_LONG: u64 = 1;
@@ -11,6 +13,7 @@ pub const RUN_OUT_OF_RANGE: u64 = 5;
 pub const VALUE_OUT_OF_RANGE: u64 = 6;
 pub const NOT_INVERTIBLE: u64 = 7;
 pub const BUFFER_TOO_SHORT: u64 = 8;
+pub const PLACES_OUT_OF_RANGE: u64 = 9;
 
 pub const ARCHIVE_LIMIT: usize = 65_536;
 

@@ -45,6 +45,22 @@ fn index_of(g: Generator, number: u64) -> Option<u64> {
     }
 }
 
+/// The lowest bits of the elements are a sequence of this width.
+fn low_bits(g: Generator, places: u64) -> Generator {
+    let operand = |x: u64| low(x.into(), places);
+    let (multiplier, increment, seed) = (operand(g.multiplier), operand(g.increment), operand(g.seed));
+    Generator { width: places, multiplier, increment, seed }
+}
+
+/// The least index at which the lowest bits are the number and, if they are so again, the exponent of
+/// the distance.
+fn occurrences_of(g: Generator, places: u64, number: u64) -> Option<(u64, Option<u64>)> {
+    let low = low_bits(g, places);
+    let index = index_of(low, number)?;
+    let (preperiod, exponent) = orbit_of(low);
+    Some((index, (index >= preperiod).then_some(exponent)))
+}
+
 /// How many steps lead from one number to another, both on the orbit of an odd multiplier.
 fn steps_between(g: Generator, from: u64, to: u64) -> Option<u64> {
     if !is_stepped(g) {
@@ -113,6 +129,47 @@ pub fn index(g: Generator, number: u64) -> IndexReply {
     let refusal = generator_refusal(g);
     let found = if refusal == 0 { index_of(g, number) } else { None };
     IndexReply { refusal, found: found.is_some().into(), index: found.unwrap_or(0) }
+}
+
+pub fn index_places(g: Generator, places: u64, number: u64) -> PlacesReply {
+    let refusal = match generator_refusal(g) {
+        0 if !(1..=g.width).contains(&places) => PLACES_OUT_OF_RANGE,
+        refusal => refusal,
+    };
+    let found = if refusal == 0 { occurrences_of(g, places, number) } else { None };
+    match found {
+        Some((index, Some(exponent))) => PlacesReply { refusal: 0, found: 1, index, recurs: 1, exponent },
+        Some((index, None)) => PlacesReply { refusal: 0, found: 1, index, recurs: 0, exponent: 0 },
+        None => PlacesReply { refusal, ..PlacesReply::default() },
+    }
+}
+
+/// The same for every number below 2^places, by the definition alone, at a narrow width: the elements
+/// are stepped through in all their bits, and the indices of each number listed. Preperiod and period
+/// are at most 2^width together, so the lists go over two periods: what stands there twice goes on as
+/// it began, and what stands there once does not come again.
+pub fn index_places_by_lists(g: Generator, places: u64) -> Vec<PlacesReply> {
+    let mut lists = vec![Vec::new(); 1 << places];
+    let mut x = g.seed;
+    for index in 0..2 << g.width {
+        lists[low(x.into(), places) as usize].push(index);
+        x = step(g, x);
+    }
+    lists.iter().map(|indices| reply_of_list(indices)).collect()
+}
+
+/// The indices have to be at one distance, a power of two.
+fn reply_of_list(indices: &[u64]) -> PlacesReply {
+    match *indices {
+        [] => PlacesReply::default(),
+        [index] => PlacesReply { refusal: 0, found: 1, index, recurs: 0, exponent: 0 },
+        [index, second, ..] => {
+            let distance: u64 = second - index;
+            let steady = indices.windows(2).all(|pair| pair[1] - pair[0] == distance);
+            assert!(distance.is_power_of_two() && steady, "{indices:?}");
+            PlacesReply { refusal: 0, found: 1, index, recurs: 1, exponent: distance.ilog2().into() }
+        }
+    }
 }
 
 pub fn gap(g: Generator, from: u64, to: u64) -> GapReply {
@@ -281,6 +338,10 @@ mod tests {
                 let r = index(g, n[4]);
                 vec![r.refusal, r.found, r.index]
             }
+            "B" => {
+                let r = index_places(g, n[4], n[5]);
+                vec![r.refusal, r.found, r.index, r.recurs, r.exponent]
+            }
             "G" => {
                 let r = gap(g, n[4], n[5]);
                 vec![r.refusal, r.found, (r.steps < 0).into(), r.steps.unsigned_abs()]
@@ -327,6 +388,47 @@ mod tests {
             let numbers: Vec<u64> = numbers.split(',').map(|n| n.parse().unwrap()).collect();
             let got: Vec<String> = reply(code, &numbers).iter().map(u64::to_string).collect();
             assert_eq!(got.join(","), expected, "{call}");
+        }
+    }
+
+    #[test]
+    fn index_places_agrees_with_the_lists() {
+        for width in 1..=4 {
+            let size = 1 << width;
+            for k in 0..size * size * size {
+                let (multiplier, increment, seed) = (k / size / size, k / size % size, k % size);
+                let g = Generator { width, multiplier, increment, seed };
+                for places in 1..=width {
+                    let lists = index_places_by_lists(g, places);
+                    for number in 0..=1 << places {
+                        let wanted = lists.get(number as usize).copied().unwrap_or_default();
+                        assert_eq!(index_places(g, places, number), wanted, "{places}, {number} in {g:?}");
+                    }
+                }
+            }
+        }
+    }
+
+    /// The low bits are the number at the index and 2^exponent on, but at no smaller power of two on; at
+    /// no lower index, so far as that is tried.
+    #[test]
+    fn index_places_agrees_with_its_definition() {
+        let mut r = Random::new(4);
+        for _ in 0..100_000 {
+            let g = samples::generator(&mut r);
+            let (places, number) = samples::places_and_number(&mut r, g);
+            let PlacesReply { refusal, found, index, recurs, exponent } = index_places(g, places, number);
+            if refusal != 0 {
+                continue;
+            }
+            let agrees = |i: u64| low(element_of(g, i).into(), places) == number;
+            let call = format!("{places}, {number} in {g:?}");
+            assert!((0..4).chain([r.any()]).all(|i| !agrees(i) || found == 1 && index <= i), "{call}");
+            assert!(found == 0 || agrees(index), "{call}");
+            for e in 0..64 {
+                let Some(later) = index.checked_add(1 << e) else { break };
+                assert!(found == 0 || agrees(later) == (recurs == 1 && e >= exponent), "{call}, 2^{e} on");
+            }
         }
     }
 

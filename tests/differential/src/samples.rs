@@ -80,6 +80,24 @@ pub fn number(r: &mut Random, g: Generator) -> u64 {
     r.pick(&choices)
 }
 
+/// A number of places, mostly one that the width has, and a number: the low bits of an element, often of
+/// one of the preperiod, near them, anywhere, or too wide.
+pub fn places_and_number(r: &mut Random, g: Generator) -> (u64, u64) {
+    let within = 1 + r.below(g.width.clamp(1, 64));
+    let refused = [0, g.width.wrapping_add(1), r.any()];
+    let choices = [within, within, within, within, within, 1, g.width, g.width, g.width, r.pick(&refused)];
+    let places = r.pick(&choices);
+
+    let bits = places.clamp(1, 64);
+    let indices = [index(r), r.below(model::orbit(g).preperiod + 2)];
+    let shown = model::element(g, r.pick(&indices)).value;
+    let low = shown & top(bits);
+    let near = low ^ 1 << r.below(bits);
+    let above = [shown, r.any(), top(bits).saturating_add(1 + r.below(2))];
+    let choices = [low, low, low, near, r.bits(bits), r.pick(&above)];
+    (places, r.pick(&choices))
+}
+
 /// Two numbers: mostly on the generator's orbit, a few steps from each other, half the period or any
 /// number of steps; else each for itself.
 pub fn two_numbers(r: &mut Random, g: Generator) -> (u64, u64) {

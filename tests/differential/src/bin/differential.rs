@@ -1,6 +1,6 @@
 //! Compares every call of the proved library with the model: on all generators of widths 1 to 5, on
-//! all pairs of numbers for the gap, and on random calls, accepted and refused. Ends with status 1 at
-//! the first difference.
+//! all their low bits, on all pairs of numbers for the gap, and on random calls, accepted and refused.
+//! Ends with status 1 at the first difference.
 //!
 //!     cargo run --release --bin differential
 
@@ -23,6 +23,8 @@ enum Kind {
     Element,
     Orbit,
     Index,
+    IndexPlaces,
+    IndexOfAllPlaces,
     Gap,
     Predecessor,
     Variety,
@@ -34,10 +36,12 @@ enum Kind {
     Remake,
 }
 
-const KINDS: [&str; 12] = [
+const KINDS: [&str; 14] = [
     "element",
     "orbit",
     "index",
+    "index_places",
+    "index_places and index",
     "gap",
     "predecessor",
     "variety",
@@ -51,9 +55,9 @@ const KINDS: [&str; 12] = [
 
 /// What replies are counted by: an answer, a refusal by its number, or nothing, which is never,
 /// none, the empty part or no number remade.
-const OUTCOMES: [&str; 10] = ["answer", "1", "2", "3", "4", "5", "6", "7", "8", "nothing"];
+const OUTCOMES: [&str; 11] = ["answer", "1", "2", "3", "4", "5", "6", "7", "8", "9", "nothing"];
 const ANSWER: usize = 0;
-const NOTHING: usize = 9;
+const NOTHING: usize = 10;
 
 trait Reply: PartialEq + Debug {
     fn refusal(&self) -> u64;
@@ -90,6 +94,16 @@ impl Reply for RunReply {
 }
 
 impl Reply for IndexReply {
+    fn refusal(&self) -> u64 {
+        self.refusal
+    }
+
+    fn is_nothing(&self) -> bool {
+        self.found == 0
+    }
+}
+
+impl Reply for PlacesReply {
     fn refusal(&self) -> u64 {
         self.refusal
     }
@@ -195,6 +209,21 @@ impl Tally {
         self.compare(Kind::Index, &(g, number), library, model);
     }
 
+    fn index_places(&mut self, g: Generator, places: u64, number: u64) {
+        self.index_places_is(g, places, number, model::index_places(g, places, number));
+    }
+
+    /// With all places of the width it is compared with the library's index as well.
+    fn index_places_is(&mut self, g: Generator, places: u64, number: u64, wanted: PlacesReply) {
+        let reply = library::index_places(g, places, number);
+        self.compare(Kind::IndexPlaces, &(g, places, number), reply, wanted);
+        if places == g.width {
+            let PlacesReply { refusal, found, index, .. } = reply;
+            let first = IndexReply { refusal, found, index };
+            self.compare(Kind::IndexOfAllPlaces, &(g, number), first, library::index(g, number));
+        }
+    }
+
     fn gap(&mut self, g: Generator, from: u64, to: u64) {
         let (library, model) = (library::gap(g, from, to), model::gap(g, from, to));
         self.compare(Kind::Gap, &(g, from, to), library, model);
@@ -295,6 +324,57 @@ fn all_generators(share: u64) -> Tally {
     tally
 }
 
+// Low bits: every number of every length at a narrow width, against lists of all indices; every number
+// of places of chosen generators, wide ones too.
+
+fn all_low_bits(share: u64) -> Tally {
+    let mut tally = Tally::default();
+    each_generator(1..=5, share, |g| {
+        for places in 1..=g.width {
+            let wanted = model::index_places_by_lists(g, places);
+            for number in 0..=1 << places {
+                let wanted = wanted.get(number as usize).copied().unwrap_or_default();
+                tally.index_places_is(g, places, number, wanted);
+            }
+        }
+        for places in [0, g.width + 1] {
+            (0..=1 << places).for_each(|number| tally.index_places(g, places, number));
+        }
+    });
+    tally
+}
+
+/// Even multipliers with long preperiods and short ones.
+const EVEN: [[u64; 4]; 7] = [
+    [64, 2, 1, 1],
+    [64, 6, 1, 1],
+    [64, u64::MAX - 1, 1 << 20, 77],
+    [64, 1 << 32, 5, 9],
+    [64, 0, 9, 4],
+    [63, 10, 3, 0],
+    [33, 2, 0, 1],
+];
+
+/// These and those of chosen periods: the low bits of the first elements and of some later ones, and
+/// numbers near them.
+fn chosen_low_bits() -> Tally {
+    let mut tally = Tally::default();
+    let odd = PERIODS.iter().map(|(_, numbers)| *numbers);
+    for [width, multiplier, increment, seed] in odd.chain(EVEN) {
+        let g = Generator { width, multiplier, increment, seed };
+        for index in (0..=width + 1).chain([1 << 32, 1 << 63, u64::MAX]) {
+            let shown = model::element(g, index).value;
+            for places in 0..=width + 1 {
+                let low = (shown as u128 % (1 << places)) as u64;
+                for number in [low, low ^ 1, low ^ 1 << places.saturating_sub(1).min(63), shown] {
+                    tally.index_places(g, places, number);
+                }
+            }
+        }
+    }
+    tally
+}
+
 // Gaps: of every pair of numbers at a narrow width, some of them too wide; of chosen periods.
 
 fn all_pairs(share: u64) -> Tally {
@@ -386,6 +466,14 @@ fn random_gaps(r: &mut Random, tally: &mut Tally, calls: u64) {
     }
 }
 
+fn random_places(r: &mut Random, tally: &mut Tally, calls: u64) {
+    for _ in 0..calls {
+        let g = samples::generator(r);
+        let (places, number) = samples::places_and_number(r, g);
+        tally.index_places(g, places, number);
+    }
+}
+
 fn on_archive(r: &mut Random, tally: &mut Tally, archive: &samples::Archive) {
     for &number in &archive.numbers {
         tally.lookup(&archive.bytes, number);
@@ -422,6 +510,7 @@ fn random_calls(share: u64) -> Tally {
     long_archives(&mut r, &mut tally);
     random_remakes(&mut r, &mut tally, calls);
     random_gaps(&mut r, &mut tally, calls);
+    random_places(&mut r, &mut tally, calls);
     tally
 }
 
@@ -438,6 +527,8 @@ fn shared(work: fn(u64) -> Tally) -> Tally {
 fn main() {
     let start = Instant::now();
     shared(all_generators).print("all generators of widths 1 to 5");
+    shared(all_low_bits).print("all low bits, widths 1 to 5");
+    chosen_low_bits().print("low bits, chosen generators");
     shared(all_pairs).print("all pairs, widths 1 to 4");
     chosen_periods().print("periods of 1, 2, 2^63 and 2^64");
     shared(random_calls).print("random calls");

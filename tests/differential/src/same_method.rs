@@ -137,6 +137,23 @@ fn index_of(g: Generator, number: u64) -> Option<u64> {
     }
 }
 
+/// Over the lowest places only. A period of 2^64, which is 0, has 64 zero bits as well; for an even
+/// multiplier the number recurs if one more step keeps it.
+fn occurrences_of(g: Generator, places: u64, number: u64) -> Option<PlacesReply> {
+    if number > mask(places) {
+        return None;
+    }
+    let low = Generator { width: places, seed: g.seed & mask(places), ..g };
+    if g.multiplier % 2 == 1 {
+        let (index, period) = index_up_the_places(low, number)?;
+        let exponent = period.trailing_zeros().into();
+        return Some(PlacesReply { refusal: 0, found: 1, index, recurs: 1, exponent });
+    }
+    let index = index_by_steps(low, number)?;
+    let recurs = (Map::step(g).apply(number) & mask(places) == number).into();
+    Some(PlacesReply { refusal: 0, found: 1, index, recurs, exponent: 0 })
+}
+
 /// A function of its own: two of the loops in `gap` would be short of registers, and take a sixth
 /// longer.
 #[inline(never)]
@@ -174,6 +191,18 @@ pub fn index(g: Generator, number: u64) -> IndexReply {
         Some(index) => IndexReply { refusal: 0, found: 1, index },
         None => IndexReply::default(),
     }
+}
+
+#[inline(never)]
+pub fn index_places(g: Generator, places: u64, number: u64) -> PlacesReply {
+    let refusal = generator_refusal(g);
+    if refusal != 0 {
+        return PlacesReply { refusal, ..PlacesReply::default() };
+    }
+    if places == 0 || places > g.width {
+        return PlacesReply { refusal: PLACES_OUT_OF_RANGE, ..PlacesReply::default() };
+    }
+    occurrences_of(g, places, number).unwrap_or_default()
 }
 
 #[inline(never)]

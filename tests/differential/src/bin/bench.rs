@@ -1,11 +1,12 @@
 //! Times the proved library against plain Rust of the same method and against the peers' way, and its
-//! gap against its index, in one run, as markdown tables:
+//! gap and index_places against its index, in one run, as markdown tables:
 //!
 //!     cargo run --release --bin bench [-- [--plain] [ROWS]]
 //!
 //! Both sides get the same inputs in turn, round by round; a ratio is the median over the rounds.
 //! Buffers are not cleared first. With `--plain` there are no headings, tabs between the fields and
 //! more digits; with ROWS only the rows that begin with this text, as `lookup` or `index, distance`.
+//! Without the feature `index-places` the rows of that call are left out.
 
 use std::env;
 use std::fmt::Display;
@@ -273,6 +274,89 @@ fn growth(out: &Output, r: &mut Random) {
     }
 }
 
+/// The rows of index_places. They have random numbers of their own, so that the other rows keep theirs.
+#[cfg(feature = "index-places")]
+mod places {
+    use super::*;
+
+    /// A generator, a number of places, and a number that it yields, as a whole and its lowest places.
+    #[derive(Clone, Copy)]
+    struct Input {
+        g: Generator,
+        places: u64,
+        whole: u64,
+        low: u64,
+    }
+
+    impl Input {
+        fn new((g, whole): (Generator, u64), places: u64) -> Input {
+            Input { g, places, whole, low: whole & u64::MAX >> (64 - places) }
+        }
+    }
+
+    fn odd(r: &mut Random, width: u64) -> (Generator, u64) {
+        (full_period_generator(r, width), r.bits(width))
+    }
+
+    /// Elements 1 and 0 differ in the lowest place, and each step moves that up by one: the preperiod is
+    /// 64, and the number one of the elements before it.
+    fn even(r: &mut Random) -> (Generator, u64) {
+        let (multiplier, seed) = (r.word() & !3 | 2, r.word());
+        let g = Generator { width: 64, multiplier, increment: r.word() & !1 | !seed & 1, seed };
+        (g, same_method::element(g, r.below(64)).value)
+    }
+
+    fn index_places(inputs: &[Input]) -> Timing {
+        measured(
+            inputs,
+            |Input { g, places, low, .. }| library::index_places(g, places, low),
+            |Input { g, places, low, .. }| same_method::index_places(g, places, low),
+        )
+    }
+
+    /// The library's two calls; that both find the number is compared.
+    fn index_places_and_index(inputs: &[Input]) -> Timing {
+        measured(
+            inputs,
+            |Input { g, places, low, .. }| library::index_places(g, places, low).found,
+            |Input { g, whole, .. }| library::index(g, whole).found,
+        )
+    }
+
+    pub fn rows(out: &Output) {
+        let r = &mut Random::new(SEED + 1);
+        out.heading("low bits", "Rust");
+        for places in [64, 32] {
+            let inputs = several(|_| Input::new(odd(r, 64), places));
+            out.row("index_places", format!("width 64, {places} places, found"), || index_places(&inputs));
+        }
+        let nowhere = several(|_| Input::new(never_at(r, 1), 64));
+        out.row("index_places", "width 64, never, seen at the lowest place", || index_places(&nowhere));
+        for places in [64, 32] {
+            let inputs = several(|_| Input::new(even(r), places));
+            out.row("index_places", format!("width 64, {places} places, even multiplier"), || {
+                index_places(&inputs)
+            });
+        }
+
+        out.heading("low bits beside index", "index");
+        for width in [8, 16, 32, 64] {
+            for places in [width, width / 2] {
+                let inputs = several(|_| Input::new(odd(r, width), places));
+                out.row("index_places, index", format!("width {width}, {places} places"), || {
+                    index_places_and_index(&inputs)
+                });
+            }
+        }
+        for places in [64, 32] {
+            let inputs = several(|_| Input::new(even(r), places));
+            out.row("index_places, index", format!("width 64, {places} places, even multiplier"), || {
+                index_places_and_index(&inputs)
+            });
+        }
+    }
+}
+
 fn main() {
     let (flags, words): (Vec<_>, Vec<_>) = env::args().skip(1).partition(|word| word == "--plain");
     let out = Output { plain: !flags.is_empty(), rows: words.join(" ") };
@@ -281,4 +365,6 @@ fn main() {
     peers_way(&out, &mut r);
     beside_index(&out, &mut r);
     growth(&out, &mut r);
+    #[cfg(feature = "index-places")]
+    places::rows(&out);
 }

@@ -1,29 +1,20 @@
--- The least index of a number in a linear generator. With an odd multiplier it is read off the search up the bit places. With
--- an even one the elements up to index n are passed, and every value is among these.
-use mathlib.Core.Path.{_≡_, refl, sym, ap, _∙_}
-use Prim.Native.Nat.{ℕ, suc, _+_, _%_, _^_, _≤_, _<_}
-use native.Mathlib.Nat.{le-refl, lt-of-le-of-lt, lt-of-not-le}
-use native.Mathlib.Decide.{decLe}
-use native.Mathlib.Numerals.{add-one}
+-- The promise of the index call: the definition finds the least index, which is below the modulus, or that there is none.
+use mathlib.Core.Path.{_≡_}
+use Prim.Native.Nat.{ℕ, _^_, _≤_}
+use native.Mathlib.Nat.{le-refl}
 use native.Mathlib.Omega.{arith}
-use borrow.Author.Count.{below-more}
 use borrow.Author.Tests.{lt-ltb, le-ltb}
 use Rattle.sequences.specs.Index.{Located, Absent}
 use Rattle.sequences.proofs.Indices.{located-is, located-demand, absent-is, absent-demand}
-use Rattle.sequences.proofs.Orbits.{orbit-never}
-use Rattle.sequences.proofs.Contracting.{rest-orbit, resting}
 use Rattle.generator.specs.declared.Generator.{Generator}
 use Rattle.generator.specs.declared.Refusal.{Refusal}
-use Rattle.generator.specs.Recurrence.{modulus, step, element}
+use Rattle.generator.specs.Recurrence.{modulus, element}
 use Rattle.generator.specs.Refusals.{numberOf, refusalOf}
 use Rattle.generator.specs.Affine.{Linear}
-use Rattle.generator.proofs.Elements.{element-start, element-next, element-follows}
-use Rattle.generator.proofs.Refusals.{modulus-linear}
 use Rattle.generator.proofs.Replies.{number-suc, number-nonzero}
 use Rattle.orbits.specs.declared.IndexAnswer.the-variants.{At, Never, Refused}
 use Rattle.orbits.specs.Index.{replyOf, IndexPromise}
-use Rattle.orbits.proofs.Elements.{reduced, contracting}
-use Rattle.orbits.proofs.Orbits.{lt-two-pow}
+use Rattle.orbits.proofs.Elements.{reduced}
 
 -- A number of 2 ^ n or more is not yielded.
 pub wide-absent : {g : Generator} {y : ℕ} → Linear g → 2 ^ g .width ≤ y → Absent (element g) y

@@ -1,8 +1,8 @@
 -- The indices at which the elements of a linear generator agree with a number in their low m places. With an odd multiplier
 -- they are read off the search, stopped at m places. With an even one the low places of the elements up to index m are
 -- passed, and every value of theirs is among these; what comes again stays, so the next element tells how it goes on.
-use mathlib.Core.Path.{_≡_, refl, sym, ap, _∙_}
-use Prim.Native.Nat.{ℕ, zero, suc, _+_, _*_, _%_, _^_, _≤_, _<_}
+use mathlib.Core.Path.{_≡_, sym, ap, _∙_}
+use Prim.Native.Nat.{ℕ, suc, _+_, _*_, _%_, _^_, _≤_, _<_}
 use native.Mathlib.Nat.{lt-of-le-of-lt, lt-of-lt-of-le, lt-of-not-le}
 use native.Mathlib.Decide.{decLe}
 use native.Mathlib.Numerals.{add-one}
@@ -23,7 +23,7 @@ use Rattle.generator.specs.declared.linear.Affine.{Affine}
 use Rattle.generator.specs.Affine.{Linear, onceOf, apply}
 use Rattle.generator.proofs.Elements.{element-start}
 use Rattle.generator.proofs.Refusals.{modulus-linear}
-use Rattle.orbits.specs.declared.kinds.Occurrences.the-variants.{Once, Every, Never}
+use Rattle.orbits.specs.declared.kinds.Occurrences.the-variants.{Once, Every}
 use Rattle.orbits.specs.Places.{OccurrencesIs}
 use Rattle.orbits.proofs.Elements.{isometric, contracting, next-place}
 use Rattle.orbits.proofs.Orbits.{lt-two-pow}

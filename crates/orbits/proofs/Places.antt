@@ -4,8 +4,8 @@
 use mathlib.Core.Path.{_≡_, refl, sym, ap, _∙_}
 use mathlib.Core.Bool.{Bool, true, false, cond, _||_}
 use mathlib.Core.Logic.{⊎-elim}
-use Prim.Native.Nat.{ℕ, zero, suc, _+_, _-_, _%_, _^_, _≤_, _<_}
-use native.Mathlib.Nat.{le-refl, le-trans, lt-of-lt-of-le}
+use Prim.Native.Nat.{ℕ, zero, suc, _-_, _%_, _^_, _≤_}
+use native.Mathlib.Nat.{le-refl, le-trans}
 use native.Mathlib.Omega.{arith}
 use lib.Dec.{eqb, ltb}
 use lib.Pow.{pow-pos, pow-mono}
@@ -15,7 +15,7 @@ use Rattle.sequences.specs.Index.{indexOf, Absent}
 use Rattle.sequences.specs.Orbit.{returnOf, preperiodOf, periodOf}
 use Rattle.sequences.specs.Occurrences.{low}
 use Rattle.sequences.proofs.Indices.{located-is, absent-is}
-use Rattle.sequences.proofs.Isometric.{exponent, exponent-le, isometric-orbit}
+use Rattle.sequences.proofs.Isometric.{exponent-le, isometric-orbit}
 use Rattle.sequences.proofs.Contracting.{resting, rest-orbit}
 use Rattle.sequences.proofs.Orbits.{Follows, preperiod-is, period-is}
 use Rattle.sequences.proofs.LowPlaces.{low-reduced, low-isometric, low-contracting, isometric-follows, contracting-follows, whole-index}
@@ -32,7 +32,7 @@ use Rattle.sequences.proofs.Occurrences.{
 use Rattle.generator.specs.declared.Generator.{Generator}
 use Rattle.generator.specs.declared.Refusal.{Refusal}
 use Rattle.generator.specs.Recurrence.{modulus, element}
-use Rattle.generator.specs.Refusals.{numberOf, orElse, refusalOf}
+use Rattle.generator.specs.Refusals.{numberOf, refusalOf}
 use Rattle.generator.specs.Affine.{Linear}
 use Rattle.generator.proofs.Refusals.{cond-none, or-else-none, or-false, linear}
 use Rattle.generator.proofs.Replies.{number-suc, number-nonzero}
@@ -103,16 +103,10 @@ places-refused g m y r e =
     record {
       equals = let k = number-suc r in rw (← e, k .1);
       meaning = λ z. absurd (number-nonzero r z);
-      recurring = λ f. absurd (omega arith);
-      odd = λ f. absurd (omega arith);
-      even = λ f. absurd (omega arith);
-      within = omega arith;
+      goes-on = λ f. absurd (omega arith);
     }
 
 module _ (g : Generator) (m y : ℕ) (z : placesRefusal g m ≡ 0) where
-  x : ℕ → ℕ
-  x = low m (element g)
-
   lin : Linear g
   lin = linear g (places-accepted g m z .0)
 
@@ -125,10 +119,14 @@ module _ (g : Generator) (m y : ℕ) (z : placesRefusal g m ≡ 0) where
         equals =
             rw (z, located-is (a .located), alone-return a, lt-ltb k (modulus g) (a .located .below), le-ltb (modulus g) (modulus g) (le-refl _));
         meaning = λ q. alone-all a (2 ^ 0);
-        recurring = λ f. (λ r. absurd (omega arith), λ r. absurd (omega (arith, alone-before a)));
-        odd = λ f p. absurd (omega (arith, alone-before a, odd-preperiod m lin l p));
-        even = λ f p. refl;
-        within = omega arith;
+        goes-on =
+            λ f.
+            record {
+              recurring = (λ r. absurd (omega arith), λ r. absurd (omega (arith, alone-before a)));
+              odd = λ p. absurd (omega (arith, alone-before a, odd-preperiod m lin l p));
+              even = λ p. refl;
+              within = omega arith;
+            };
       }
 
   pub places-every : {k e : ℕ} → OccurrencesIs g m y (occurrences.Every k e) →
@@ -140,10 +138,14 @@ module _ (g : Generator) (m y : ℕ) (z : placesRefusal g m ≡ 0) where
         equals =
             rw (z, located-is (r .located), between, lt-ltb k (modulus g) (r .located .below), lt-ltb (2 ^ e - 1) (modulus g) (omega (arith, r .room, pow-pos e)), period e, exponent-is e (le-trans (h .0) (le-trans l (lin .width-high))));
         meaning = λ q. recurring-all r (low-follows m lin l);
-        recurring = λ f. (λ q. recurring-reached r, λ q. refl);
-        odd = λ f p. refl;
-        even = λ f p. exponent-zero e (sym (recurring-period r) ∙ even-period m lin l p);
-        within = h .0;
+        goes-on =
+            λ f.
+            record {
+              recurring = (λ q. recurring-reached r, λ q. refl);
+              odd = λ p. refl;
+              even = λ p. exponent-zero e (sym (recurring-period r) ∙ even-period m lin l p);
+              within = h .0;
+            };
       }
 
   pub places-never : Absent (low m (element g)) y → PlacesPromise g m y (placesOf answer.Never)
@@ -151,10 +153,7 @@ module _ (g : Generator) (m y : ℕ) (z : placesRefusal g m ≡ 0) where
       record {
         equals = rw (z, absent-is h (modulus g), le-ltb (modulus g) (modulus g) (le-refl _));
         meaning = λ q. absent-all (2 ^ 0) h;
-        recurring = λ f. absurd (omega arith);
-        odd = λ f. absurd (omega arith);
-        even = λ f. absurd (omega arith);
-        within = omega arith;
+        goes-on = λ f. absurd (omega arith);
       }
 
 -- The index call is the case of all n places.

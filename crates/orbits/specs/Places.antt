@@ -55,10 +55,17 @@ placesOf (answer.Every k e) = everyReply k e
 placesOf answer.Never = neverReply
 placesOf (answer.Refused r) = refusedReply (numberOf r)
 
+-- How an index that was found goes on: it recurs exactly from the preperiod of the low places on; with an odd multiplier
+-- always, and with an even one at every further index.
+pub record GoesOn (g : Generator) (m : ℕ) (reply : PlacesReply) : Type 0 where
+  pub recurring : (reply .recurs ≡ 1) ↔ (preperiodOf (low m (element g)) (modulus g) ≤ reply .index)
+  pub odd : g .multiplier % 2 ≡ 1 → reply .recurs ≡ 1
+  pub even : g .multiplier % 2 ≡ 0 → reply .exponent ≡ 0
+  pub within : reply .exponent ≤ m
+
 -- The promise of the call. The reply is that of the definitions: the least index whose element agrees, and the least later
 -- one that does, which is the first return of the low places there. An accepted reply gives all indices that agree, however
--- large. An index recurs exactly from the preperiod of the low places on: with an odd multiplier always, and with an even one
--- at every further index.
+-- large.
 pub record PlacesPromise (g : Generator) (m y : ℕ) (reply : PlacesReply) : Type 0 where
   pub equals :
       let x = low m (element g) in
@@ -67,11 +74,7 @@ pub record PlacesPromise (g : Generator) (m y : ℕ) (reply : PlacesReply) : Typ
   pub meaning :
       reply .refusal ≡ 0 →
       AllIndices (low m (element g)) y (reply .found) (reply .index) (reply .recurs) (2 ^ reply .exponent)
-  pub recurring :
-      reply .found ≡ 1 → (reply .recurs ≡ 1) ↔ (preperiodOf (low m (element g)) (modulus g) ≤ reply .index)
-  pub odd : reply .found ≡ 1 → g .multiplier % 2 ≡ 1 → reply .recurs ≡ 1
-  pub even : reply .found ≡ 1 → g .multiplier % 2 ≡ 0 → reply .exponent ≡ 0
-  pub within : reply .exponent ≤ m
+  pub goes-on : reply .found ≡ 1 → GoesOn g m reply
 
 -- The index call is the case of all n places: whatever the two calls reply, the refusal, found and the index are the same.
 -- `index-is-places` in proofs/ is the proof.

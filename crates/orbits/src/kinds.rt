@@ -1,5 +1,5 @@
-// One door to the kinds of generator. A generator has to be accepted, and for a sighting its multiplier odd; nothing else
-// is asked of it.
+// One door to the kinds of generator. A generator has to be accepted, for a sighting its multiplier odd, and for occurrences it
+// must have the places; nothing else is asked of it.
 ghost use mathlib.Core.Path.{_≡_};
 ghost use Prim.Native.Nat.{_%_, _≤_};
 ghost use Rattle.generator.specs.Recurrence.{modulus, element};

@@ -1,5 +1,5 @@
-// The orbit of a generator and the least index of a number, for every generator, and for odd multipliers the steps between two
-// numbers, without stepping.
+// The orbit of a generator, the least index of a number and the indices that agree with it in its low places, for every
+// generator, and for odd multipliers the steps between two numbers, without stepping.
 ghost use mathlib.Core.Path.{_≡_};
 ghost use Rattle.generator.specs.Refusals.{checkNumber};
 ghost use Rattle.orbits.specs.Orbit.{OrbitPromise, orbitOf};

@@ -1,4 +1,4 @@
-// Orbit and index of the linear kind. With an odd multiplier they are read off the search up the bit places; with an even one
+// Orbit and indices of the linear kind. With an odd multiplier they are read off the search up the bit places; with an even one
 // the sequence comes to rest after at most n steps.
 ghost use mathlib.Core.Path.{_≡_};
 ghost use Prim.Native.Nat.{_+_, _*_, _%_, _^_, _≤_, _<_};
@@ -81,7 +81,7 @@ pub fn by_places(g: Generator, places: u64, y: u64) -> Occurrences
 }
 
 // The low places of the element one step after that whose low places are x.
-pub fn low_next(g: Generator, places: u64, x: u64) -> u64
+fn low_next(g: Generator, places: u64, x: u64) -> u64
     requires { ⌜ (1 ≤ places) × (places ≤ 64) ⌝ }
     ensures { λ r. ⌜ r ≡ (g .multiplier * x + g .increment) % 2 ^ places ⌝ }
 {

@@ -2,9 +2,9 @@
 -- successors. Let k be the least one. Before t nothing comes again, so k is the only one if it lies there. From t on elements
 -- are equal exactly at indices that are congruent modulo P, so the others are k plus the multiples of P. And the next index
 -- that the definition of the return finds is there too, or there is none.
-use mathlib.Core.Path.{_≡_, refl, sym, ap, _∙_}
+use mathlib.Core.Path.{_≡_, sym, ap, _∙_}
 use mathlib.Core.Logic.{_↔_, by-cases}
-use Prim.Native.Nat.{ℕ, zero, suc, _+_, _-_, _*_, _/_, _%_, _≤_, _<_}
+use Prim.Native.Nat.{ℕ, suc, _+_, _-_, _*_, _/_, _≤_, _<_}
 use native.Mathlib.Nat.{div-add-mod', zero-mod, lt-of-not-le}
 use native.Mathlib.Decide.{ℕ-discrete, decLe}
 use native.Mathlib.Omega.{arith}

@@ -1,5 +1,4 @@
 -- `orbits::range_checked` meets its contract.
-use native.Mathlib.Omega.{arith}
 use borrow.Author.Tests.{eq-eqb, ne-eqb, lt-ltb, le-ltb}
 use Rattle.orbits.specs.Places.{rangeRefusal}
 use Rattle.orbits.proofs.range_checked.Statement.{statement}

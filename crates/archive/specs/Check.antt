@@ -1,4 +1,4 @@
--- The check of an archive: 1, then line by line (SCOPE 5.2, 6.9).
+-- The check of an archive: 1, then line by line (SCOPE 5.2, 6.17).
 use mathlib.Core.Path.{_≡_}
 use mathlib.Core.Bool.{true, false}
 use mathlib.Core.List.{List, [], _∷_}

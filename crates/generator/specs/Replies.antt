@@ -1,4 +1,4 @@
--- The answers in plain numbers, as document 01 lists them (SCOPE 6.10).
+-- The answers in plain numbers, as document 01 lists them (SCOPE 6.18).
 use Prim.Native.Nat.{ℕ, zero, suc}
 use Rattle.generator.specs.declared.ValueAnswer.{ValueAnswer}
 use Rattle.generator.specs.declared.ValueAnswer.the-variants.{Value, Refused}

@@ -68,11 +68,11 @@ np_orbit_reply  np_orbit(np_generator g);
 /* The least index that yields the value (found 1), or never (found 0). Refusals 3, 4. */
 np_index_reply  np_index(np_generator g, uint64_t value);
 
-/* The least index at which the element's lowest `places` bits, the element modulo 2^places, are the
- * value (found 1), or never (found 0); a value of 2^places or more is never. With recurs 0 they are
- * it at that index and at no other, and exponent is 0; with recurs 1 at index + t * 2^exponent for
- * every t from 0 on and at no other, and exponent is 0 to 64. With places = width, found and index
- * are those of np_index. Refusals 3, 4, 9. */
+/* The least index at which the element's lowest `places` bits (the element modulo 2^places) are the
+ * value (found 1), or never (found 0); a value of 2^places or more is never. With recurs 0 no other
+ * index has them, and exponent is 0; with recurs 1 exactly the indices index + t * 2^exponent, t from
+ * 0 on, have them, and exponent is 0 to 64. With places = width, found and index are those of
+ * np_index. Refusals 3, 4, 9. */
 np_places_reply np_index_places(np_generator g, uint64_t places, uint64_t value);
 
 /* The steps from one number of the sequence to another (found 1), or never (found 0) if either of

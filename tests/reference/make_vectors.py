@@ -467,7 +467,7 @@ def worked_places():
     """Every number of every length on three of document 01's generators; some on its wider one."""
     for g in ((4, 5, 3, 1), (4, 2, 0, 1), (4, 6, 1, 1)):
         for m in range(1, 5):
-            for y in range(2**m + 1):
+            for y in range(2 ** g[0] + 1):
                 yield g, m, y
     for m, y in product((1, 2, 5, 8, 9, 10), (49, 985, 75)):
         yield (10, 371, 995, 73), m, y % 2**m

@@ -175,9 +175,9 @@ pub fn index(g: Generator, value: u64) -> Result<Index, Refusal> {
     Refusal::of(refusal).map(|()| if found == 0 { Index::Never } else { Index::At(index) })
 }
 
-/// The least index at which the element's lowest `places` bits, the element modulo 2^`places`, are the
-/// value, and at which others they are it; or never, as for every value of 2^`places` or more. With
-/// `places` = `width` the least index is that of [`index`].
+/// The least index at which the element's lowest `places` bits (the element modulo 2^`places`) are the
+/// value, and whether that recurs; or never, as for every value of 2^`places` or more. With `places` =
+/// `width` the least index is that of [`index`].
 ///
 /// ```
 /// use noonpasture::{index, index_places, Generator, Index, Occurrences, Refusal};

@@ -58,7 +58,7 @@ pub extern "C" fn np_index(g: Generator, value: u64) -> IndexReply
     of_index(orbits::index(g, value))
 }
 
-// The indices whose elements agree with the value in the lowest places: the least, and how it goes on; or never.
+// The indices at which the element's lowest places are the value: the least, and how it goes on; or never.
 #[no_mangle]
 pub extern "C" fn np_index_places(g: Generator, places: u64, value: u64) -> PlacesReply
     ensures { λ r. ⌜ PlacesPromise g places value r ⌝ }

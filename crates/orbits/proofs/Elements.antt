@@ -29,7 +29,7 @@ use Rattle.words.proofs.Congruence.{
   even-half,
 }
 use Rattle.words.proofs.Places.{trailing-alpha}
-use Rattle.sequences.proofs.Agreement.{Agree, Reduced, agree-lower, agree-zero}
+use Rattle.sequences.proofs.Agreement.{Reduced, agree-lower, agree-zero}
 use Rattle.sequences.proofs.Isometric.{Isometric}
 use Rattle.sequences.proofs.Strides.{Strides}
 use Rattle.sequences.proofs.Contracting.{Contracting, Scaling, scaling-contracting}

@@ -1,11 +1,12 @@
--- The promise of the index call: the definition finds the least index, which is below the modulus, or that there is none.
+-- The promise of the index call: the definition finds the least index, which is below the modulus, or the bound, where there
+-- is none.
 use mathlib.Core.Path.{_≡_}
 use Prim.Native.Nat.{ℕ, _^_, _≤_}
 use native.Mathlib.Nat.{le-refl}
-use native.Mathlib.Omega.{arith}
 use borrow.Author.Tests.{lt-ltb, le-ltb}
 use Rattle.sequences.specs.Index.{Located, Absent}
 use Rattle.sequences.proofs.Indices.{located-is, located-demand, absent-is, absent-demand}
+use Rattle.sequences.proofs.LowPlaces.{reduced-absent}
 use Rattle.generator.specs.declared.Generator.{Generator}
 use Rattle.generator.specs.declared.Refusal.{Refusal}
 use Rattle.generator.specs.Recurrence.{modulus, element}
@@ -18,7 +19,7 @@ use Rattle.orbits.proofs.Elements.{reduced}
 
 -- A number of 2 ^ n or more is not yielded.
 pub wide-absent : {g : Generator} {y : ℕ} → Linear g → 2 ^ g .width ≤ y → Absent (element g) y
-wide-absent v l = record { none = λ i e. omega (arith, reduced v .below i) }
+wide-absent v = reduced-absent (reduced v)
 
 -- The promise of the call.
 pub index-refused : (g : Generator) (y : ℕ) (r : Refusal) → numberOf r ≡ refusalOf g → IndexPromise g y (replyOf (Refused r))

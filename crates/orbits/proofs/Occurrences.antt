@@ -7,30 +7,24 @@ use native.Mathlib.Nat.{lt-of-le-of-lt, lt-of-lt-of-le, lt-of-not-le}
 use native.Mathlib.Decide.{decLe}
 use native.Mathlib.Numerals.{add-one}
 use native.Mathlib.Omega.{arith}
-use lib.Pow.{pow-mono}
 use borrow.Author.Count.{below-more}
 use Rattle.words.proofs.Congruence.{Congruent, same-refl, same-sym, same-trans, same-mod, same-add, same-scale, mod-lower}
 use Rattle.sequences.specs.Index.{Located, Absent}
+use Rattle.sequences.specs.Orbit.{IsOrbit}
 use Rattle.sequences.specs.Places.{Settles}
 use Rattle.sequences.specs.Occurrences.{low}
-use Rattle.sequences.proofs.LowPlaces.{low-is, low-reduced, low-contracting, contracting-follows, low-recurring}
-use Rattle.sequences.proofs.Occurrences.{rests-recurring, moves-alone}
-use Rattle.sequences.proofs.Orbits.{orbit-never}
-use Rattle.sequences.proofs.Contracting.{Contracting, resting, rest-orbit}
+use Rattle.sequences.proofs.LowPlaces.{low-is, contracting-follows, low-rest, low-recurring}
+use Rattle.sequences.proofs.Occurrences.{stays-recurring, moves-alone}
+use Rattle.sequences.proofs.Orbits.{Follows, orbit-never}
 use Rattle.generator.specs.declared.Generator.{Generator}
 use Rattle.generator.specs.Recurrence.{modulus, element}
 use Rattle.generator.specs.declared.linear.Affine.{Affine}
 use Rattle.generator.specs.Affine.{Linear, onceOf, apply}
 use Rattle.generator.proofs.Elements.{element-start}
-use Rattle.generator.proofs.Refusals.{modulus-linear}
 use Rattle.orbits.specs.declared.kinds.Occurrences.the-variants.{Once, Every}
 use Rattle.orbits.specs.Places.{OccurrencesIs}
 use Rattle.orbits.proofs.Elements.{isometric, contracting, next-place}
-use Rattle.orbits.proofs.Orbits.{lt-two-pow}
-
--- m places have room below the modulus
-pub places-room : {g : Generator} {m : ℕ} → Linear g → m ≤ g .width → 2 ^ m ≤ modulus g
-places-room {g} v l = rw (modulus-linear g (v .width-low)) (pow-mono l)
+use Rattle.orbits.proofs.Orbits.{lt-two-pow, places-room}
 
 -- what the search hands back, once m places are settled
 pub settled-every : {g : Generator} {m y p k e : ℕ} →
@@ -71,20 +65,21 @@ passing-start g m y e =
 
 module _ {g : Generator} {m y x i : ℕ}
     (pre : (Linear g) × (g .multiplier % 2 ≡ 0) × (1 ≤ m) × (m ≤ g .width)) (p : Passing g m y x i) where
-  low-contracts : Contracting m (low m (element g))
-  low-contracts = low-contracting m (pre .3) (contracting (pre .0) (pre .1))
+  rest : (t : ℕ) × ((t ≤ m) × IsOrbit (low m (element g)) t 1)
+  rest = low-rest m (pre .3) (contracting (pre .0) (pre .1))
+
+  follows : Follows (low m (element g))
+  follows = contracting-follows m (pre .3) (contracting (pre .0) (pre .1))
 
   room : m < modulus g
   room = lt-of-lt-of-le (lt-two-pow m) (places-room (pre .0) (pre .3))
 
+  rest-room : rest .0 < modulus g
+  rest-room = lt-of-le-of-lt (rest .1 .0) room
+
   pub passing-never : m < i → Absent (low m (element g)) y
   passing-never l =
-      let o = rest-orbit low-contracts (low-reduced m (element g)) (resting low-contracts (low-reduced m (element g)) .1) in
-      record {
-        none =
-            orbit-never (contracting-follows m (pre .3) (contracting (pre .0) (pre .1))) (o .1)
-            (λ j b. p .passed j (omega (arith, o .0)));
-      }
+      record { none = orbit-never follows (rest .1 .1) (λ j b. p .passed j (omega (arith, rest .1 .0))) }
 
   module _ {after : ℕ} (l : i ≤ m) (e : after ≡ (g .multiplier * x + g .increment) % 2 ^ m) where
     after-held : after ≡ low m (element g) (suc i)
@@ -101,12 +96,11 @@ module _ {g : Generator} {m y x i : ℕ}
     pub passing-stays : x ≡ y → after ≡ y → OccurrencesIs g m y (Every i 0)
     passing-stays q a = (
       omega arith,
-      rests-recurring low-contracts (low-reduced m (element g)) room (found q) (sym after-held ∙ a),
+      stays-recurring (rest .1 .1) rest-room (found q) (sym after-held ∙ a),
     )
 
     pub passing-moves : x ≡ y → (after ≡ y → ⊥) → OccurrencesIs g m y (Once i)
-    passing-moves q d =
-        moves-alone low-contracts (low-reduced m (element g)) room (found q) (λ h. d (after-held ∙ h))
+    passing-moves q d = moves-alone (rest .1 .1) rest-room (found q) follows (λ h. d (after-held ∙ h))
 
     pub passing-next : (x ≡ y → ⊥) → Passing g m y after (i + 1)
     passing-next d =

@@ -1,8 +1,8 @@
 -- The orbit of a linear generator: with an odd multiplier it is periodic from the start, with an even one it comes to rest.
 -- Either way there is room for it below the modulus, so that the definitions find it there.
-use mathlib.Core.Path.{_≡_, refl, sym, ap, subst, _∙_}
+use mathlib.Core.Path.{_≡_, refl, sym, ap, _∙_}
 use mathlib.Core.Logic.{⊎-elim}
-use Prim.Native.Nat.{ℕ, zero, suc, _+_, _-_, _*_, _/_, _%_, _^_, _≤_, _<_}
+use Prim.Native.Nat.{ℕ, zero, suc, _+_, _-_, _/_, _%_, _^_, _≤_, _<_}
 use native.Mathlib.Nat.{le-of-lt, le-refl, le-trans, lt-of-lt-of-le}
 use native.Mathlib.Omega.{arith}
 use lib.Pow.{pow-pos, pow-lt, pow-mono}
@@ -77,15 +77,15 @@ module _ {g : Generator} (lin : Linear g) where
   even-room : {t : ℕ} → t ≤ g .width → t + 1 ≤ modulus g
   even-room l = rw (modulus-linear g (lin .width-low)) (omega (arith, lt-two-pow (g .width)))
 
-  odd-room : {e : ℕ} → e ≤ g .width → 2 ^ e ≤ modulus g
-  odd-room l = rw (modulus-linear g (lin .width-low)) (pow-mono l)
+  pub places-room : {m : ℕ} → m ≤ g .width → 2 ^ m ≤ modulus g
+  places-room l = rw (modulus-linear g (lin .width-low)) (pow-mono l)
 
   pub even-cycle : {t : ℕ} → (t ≤ g .width) × IsOrbit (element g) t 1 → IsCycle g (record { preperiod = t; last = 0 })
   even-cycle o = record { orbit = o .1; within = omega (arith, even-room (o .0)) }
 
   pub odd-cycle : {e last : ℕ} → (e ≤ g .width) × IsOrbit (element g) 0 (2 ^ e) → last + 1 ≡ 2 ^ e →
       IsCycle g (record { preperiod = 0; last = last })
-  odd-cycle o q = record { orbit = rw q (o .1); within = omega (arith, odd-room (o .0)) }
+  odd-cycle o q = record { orbit = rw q (o .1); within = omega (arith, places-room (o .0)) }
 
 -- with an odd multiplier without a preperiod
 pub odd-has-cycle : {g : Generator} → Linear g → g .multiplier % 2 ≡ 1 →
@@ -164,4 +164,4 @@ orbit-odd g {e} z p o =
     }
   where
     room : 0 + 2 ^ e ≤ modulus g
-    room = omega (arith, odd-room (linear g z) (o .0))
+    room = omega (arith, places-room (linear g z) (o .0))

@@ -1,5 +1,5 @@
 -- The promise of the places call, and that the index call is its case of all n places. What the functions behind the call
--- hand back is the least index with its place on the orbit of the low places; all indices that agree, and the definitions,
+-- hand back is the least index and where it lies on the orbit of the low places; all indices that agree, and the definitions,
 -- follow from that in any sequence. An odd multiplier has no preperiod in any number of places, an even one the period 1.
 use mathlib.Core.Path.{_≡_, refl, sym, ap, _∙_}
 use mathlib.Core.Bool.{Bool, true, false, cond, _||_}
@@ -16,16 +16,21 @@ use Rattle.sequences.specs.Orbit.{returnOf, preperiodOf, periodOf}
 use Rattle.sequences.specs.Occurrences.{low}
 use Rattle.sequences.proofs.Indices.{located-is, absent-is}
 use Rattle.sequences.proofs.Isometric.{exponent-le, isometric-orbit}
-use Rattle.sequences.proofs.Contracting.{resting, rest-orbit}
 use Rattle.sequences.proofs.Orbits.{Follows, preperiod-is, period-is}
-use Rattle.sequences.proofs.LowPlaces.{low-reduced, low-isometric, low-contracting, isometric-follows, contracting-follows, whole-index}
+use Rattle.sequences.proofs.LowPlaces.{
+  low-reduced,
+  low-isometric,
+  isometric-follows,
+  contracting-follows,
+  low-rest,
+  whole-index,
+}
 use Rattle.sequences.proofs.Occurrences.{
   alone-all,
   alone-return,
   alone-before,
   recurring-all,
   recurring-return,
-  recurring-reached,
   recurring-period,
   absent-all,
 }
@@ -54,8 +59,7 @@ use Rattle.orbits.specs.Places.{
   OccurrencesIs,
 }
 use Rattle.orbits.proofs.Elements.{reduced, isometric, contracting}
-use Rattle.orbits.proofs.Orbits.{lt-two-pow, exponent-is}
-use Rattle.orbits.proofs.Occurrences.{places-room}
+use Rattle.orbits.proofs.Orbits.{lt-two-pow, places-room, exponent-is}
 
 -- what the call accepts
 pub places-accepted : (g : Generator) (m : ℕ) → placesRefusal g m ≡ 0 → (refusalOf g ≡ 0) × (1 ≤ m) × (m ≤ g .width)
@@ -78,19 +82,17 @@ module _ {g : Generator} (m : ℕ) (lin : Linear g) (l : m ≤ g .width) where
 
   even-period : g .multiplier % 2 ≡ 0 → periodOf (low m (element g)) (modulus g) ≡ 1
   even-period p =
-      let con = low-contracting m l (contracting lin p) in
-      let red = low-reduced m (element g) in
-      let o = rest-orbit con red (resting con red .1) in
-      period-is (o .1) (omega (arith, o .0, lt-two-pow m, places-room lin l))
+      let o = low-rest m l (contracting lin p) in
+      period-is (o .1 .1) (omega (arith, o .1 .0, lt-two-pow m, places-room lin l))
 
   low-follows : Follows (low m (element g))
   low-follows =
       ⊎-elim (λ p. contracting-follows m l (contracting lin p)) (λ p. isometric-follows m l (isometric lin p))
       (mod-two (g .multiplier))
 
--- a period less 1, and a period of 1
-period : (e : ℕ) → suc (2 ^ e - 1) ≡ 2 ^ e
-period e = omega (arith, pow-pos e)
+-- a power of two less 1, and one that is 1
+pow-less-one : (e : ℕ) → suc (2 ^ e - 1) ≡ 2 ^ e
+pow-less-one e = omega (arith, pow-pos e)
 
 exponent-zero : (e : ℕ) → 2 ^ e ≡ 1 → e ≡ 0
 exponent-zero zero h = refl
@@ -115,14 +117,19 @@ module _ (g : Generator) (m y : ℕ) (z : placesRefusal g m ≡ 0) where
 
   pub places-once : {k : ℕ} → OccurrencesIs g m y (occurrences.Once k) → PlacesPromise g m y (placesOf (answer.Once k))
   places-once {k} a =
+      let found = lt-ltb k (modulus g) (a .located .below) in
+      let no-other = le-ltb (modulus g) (modulus g) (le-refl _) in
       record {
-        equals =
-            rw (z, located-is (a .located), alone-return a, lt-ltb k (modulus g) (a .located .below), le-ltb (modulus g) (modulus g) (le-refl _));
+        equals = rw (z, located-is (a .located), alone-return a, found, no-other);
         meaning = λ q. alone-all a (2 ^ 0);
         goes-on =
             λ f.
             record {
-              recurring = (λ r. absurd (omega arith), λ r. absurd (omega (arith, alone-before a)));
+              preperiod = a .preperiod;
+              period = a .period;
+              orbit = a .orbit;
+              recurring = (λ r. absurd (omega arith), λ r. absurd (omega (arith, a .before)));
+              every = λ r. absurd (omega arith);
               odd = λ p. absurd (omega (arith, alone-before a, odd-preperiod m lin l p));
               even = λ p. refl;
               within = omega arith;
@@ -134,14 +141,20 @@ module _ (g : Generator) (m y : ℕ) (z : placesRefusal g m ≡ 0) where
   places-every {k} {e} h =
       let r = h .1 in
       let between = recurring-return r (low-follows m lin l) in
+      let found = lt-ltb k (modulus g) (r .located .below) in
+      let again = lt-ltb (2 ^ e - 1) (modulus g) (omega (arith, r .room, pow-pos e)) in
+      let exact = exponent-is e (le-trans (h .0) (le-trans l (lin .width-high))) in
       record {
-        equals =
-            rw (z, located-is (r .located), between, lt-ltb k (modulus g) (r .located .below), lt-ltb (2 ^ e - 1) (modulus g) (omega (arith, r .room, pow-pos e)), period e, exponent-is e (le-trans (h .0) (le-trans l (lin .width-high))));
+        equals = rw (z, located-is (r .located), between, found, again, pow-less-one e, exact);
         meaning = λ q. recurring-all r (low-follows m lin l);
         goes-on =
             λ f.
             record {
-              recurring = (λ q. recurring-reached r, λ q. refl);
+              preperiod = r .preperiod;
+              period = 2 ^ e;
+              orbit = r .orbit;
+              recurring = (λ q. r .reached, λ q. refl);
+              every = λ q. refl;
               odd = λ p. refl;
               even = λ p. exponent-zero e (sym (recurring-period r) ∙ even-period m lin l p);
               within = h .0;

@@ -1,12 +1,12 @@
--- The indices of a generator whose elements agree with a number in the lowest m places, when no more of it is legible
--- (document 02, note 3; SCOPE 3.8).
+-- The indices of a generator at which the lowest m places of the element are a given number, when no more of it is legible
+-- (document 02, note 3; SCOPE 3.8). An index agrees if they are.
 use mathlib.Core.Path.{_≡_}
 use mathlib.Core.Bool.{cond, _||_}
 use mathlib.Core.Logic.{_↔_}
 use Prim.Native.Nat.{ℕ, zero, suc, _%_, _^_, _≤_}
 use lib.Dec.{eqb, ltb}
 use Rattle.sequences.specs.Index.{indexOf, Absent}
-use Rattle.sequences.specs.Orbit.{returnOf, preperiodOf}
+use Rattle.sequences.specs.Orbit.{returnOf, IsOrbit}
 use Rattle.sequences.specs.Occurrences.{low, AllIndices, Alone, Recurring}
 use Rattle.generator.specs.declared.Generator.{Generator}
 use Rattle.generator.specs.Recurrence.{modulus, element}
@@ -28,7 +28,8 @@ rangeRefusal g m = cond (eqb m 0 || ltb (g .width) m) 9 0
 unfoldable pub placesRefusal : Generator → ℕ → ℕ
 placesRefusal g m = orElse (refusalOf g) (rangeRefusal g m)
 
--- In plain numbers: the only index that agrees; an index that agrees and with it those every 2 ^ e further; never; a refusal.
+-- In plain numbers: the only index that agrees; the least index that agrees, where those every 2 ^ e further do too; never;
+-- a refusal.
 abbrev pub onceReply : ℕ → PlacesReply
 onceReply k = record { refusal = 0; found = 1; index = k; recurs = 0; exponent = 0 }
 
@@ -55,17 +56,22 @@ placesOf (answer.Every k e) = everyReply k e
 placesOf answer.Never = neverReply
 placesOf (answer.Refused r) = refusedReply (numberOf r)
 
--- How an index that was found goes on: it recurs exactly from the preperiod of the low places on; with an odd multiplier
--- always, and with an even one at every further index.
+-- How an index that was found goes on, by the preperiod and the period of the low places: it recurs exactly from the preperiod
+-- on, and then every period. With an odd multiplier it always recurs; with an even one, where it recurs, at every further
+-- index. The exponent is at most m.
 pub record GoesOn (g : Generator) (m : ℕ) (reply : PlacesReply) : Type 0 where
-  pub recurring : (reply .recurs ≡ 1) ↔ (preperiodOf (low m (element g)) (modulus g) ≤ reply .index)
+  pub preperiod : ℕ
+  pub period : ℕ
+  pub orbit : IsOrbit (low m (element g)) preperiod period
+  pub recurring : (reply .recurs ≡ 1) ↔ (preperiod ≤ reply .index)
+  pub every : reply .recurs ≡ 1 → 2 ^ reply .exponent ≡ period
   pub odd : g .multiplier % 2 ≡ 1 → reply .recurs ≡ 1
   pub even : g .multiplier % 2 ≡ 0 → reply .exponent ≡ 0
   pub within : reply .exponent ≤ m
 
--- The promise of the call. The reply is that of the definitions: the least index whose element agrees, and the least later
--- one that does, which is the first return of the low places there. An accepted reply gives all indices that agree, however
--- large.
+-- The promise of the call. The reply is that of the definitions: the least index that agrees, and the least later one that
+-- does, which is the first return of the low places there. An accepted reply gives all indices that agree, however large; and
+-- where one was found, how it goes on.
 pub record PlacesPromise (g : Generator) (m y : ℕ) (reply : PlacesReply) : Type 0 where
   pub equals :
       let x = low m (element g) in

@@ -1,5 +1,5 @@
-// One door to the kinds of generator. A generator has to be accepted, for a sighting its multiplier odd, and for occurrences it
-// must have the places; nothing else is asked of it.
+// One door to the kinds of generator. A generator has to be accepted; for a sighting its multiplier has to be odd, for
+// occurrences the number of places 1 to its width; nothing else is asked of it.
 ghost use mathlib.Core.Path.{_≡_};
 ghost use Prim.Native.Nat.{_%_, _≤_};
 ghost use Rattle.generator.specs.Recurrence.{modulus, element};
@@ -60,7 +60,7 @@ pub fn sighting_of(g: Generator, y: u64) -> Sighting
     linear::sighting(g, y)
 }
 
-// The indices whose elements agree with y in the lowest places.
+// The indices at which the element's lowest places are y.
 pub fn occurrences_of(g: Generator, places: u64, y: u64) -> Occurrences
     requires { ⌜ (refusalOf g ≡ 0) × (1 ≤ places) × (places ≤ g .width) ⌝ }
     ensures { λ r. ⌜ OccurrencesIs g places y r ⌝ }

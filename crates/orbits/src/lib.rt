@@ -1,5 +1,5 @@
-// The orbit of a generator, the least index of a number and the indices that agree with it in its low places, for every
-// generator, and for odd multipliers the steps between two numbers, without stepping.
+// The orbit of a generator, the least index of a number, and all indices of a number in the low places, for every generator;
+// and for odd multipliers the steps between two numbers. None of them steps through the indices.
 ghost use mathlib.Core.Path.{_≡_};
 ghost use Rattle.generator.specs.Refusals.{checkNumber};
 ghost use Rattle.orbits.specs.Orbit.{OrbitPromise, orbitOf};
@@ -69,7 +69,7 @@ pub struct GapReply {
     pub steps: i64,
 }
 
-// found is 0 for never; recurs is 0 where no other index agrees, 1 where those every 2^exponent further do.
+// found is 0 for never; recurs is 0 for the index only, 1 for it and those every 2^exponent further.
 #[repr(C)]
 pub struct PlacesReply {
     pub refusal: u64,
@@ -178,7 +178,7 @@ fn places_checked(g: Generator, places: u64) -> Check
     or_else(general, range)
 }
 
-// The least index whose element agrees with `value` in the lowest places, and whether others do: none, or those every
+// The least index at which the element's lowest places are `value`, and at which others they are: none, or those every
 // 2^exponent further; or never.
 pub fn index_places(g: Generator, places: u64, value: u64) -> PlacesAnswer
     ensures { λ r. ⌜ PlacesPromise g places value (placesOf r) ⌝ }

@@ -64,7 +64,7 @@ pub fn cycle(g: Generator) -> Cycle
     }
 }
 
-// For an odd multiplier: the number agrees from an index on every period of the low places, if all of them can be settled.
+// For an odd multiplier: if all the places can be settled, y is at the index found and every period of the low places further.
 pub fn by_places(g: Generator, places: u64, y: u64) -> Occurrences
     requires { ⌜ (Linear g) × (g .multiplier % 2 ≡ 1) × (places ≤ g .width) × (y < 2 ^ places) ⌝ }
     ensures { λ r. ⌜ OccurrencesIs g places y r ⌝ }
@@ -88,7 +88,7 @@ fn low_next(g: Generator, places: u64, x: u64) -> u64
     low_bits(value_at(once(g), x), places)
 }
 
-// For an even multiplier: the low places of the elements up to the one that stays, at most places + 1 of them. What is found
+// For an even multiplier: the low places of the first places + 1 elements, among which is the one that stays. What is found
 // comes again if it stays, and otherwise never.
 pub fn by_steps(g: Generator, places: u64, y: u64) -> Occurrences
     requires { ⌜ (Linear g) × (g .multiplier % 2 ≡ 0) × (1 ≤ places) × (places ≤ g .width) ⌝ }
@@ -113,7 +113,7 @@ pub fn by_steps(g: Generator, places: u64, y: u64) -> Occurrences
     Occurrences::Never
 }
 
-// The indices whose elements agree with y in the lowest places.
+// The indices at which the element's lowest places are y.
 pub fn occurrences(g: Generator, places: u64, y: u64) -> Occurrences
     requires { ⌜ (Linear g) × (1 ≤ places) × (places ≤ g .width) ⌝ }
     ensures { λ r. ⌜ OccurrencesIs g places y r ⌝ }
@@ -127,7 +127,7 @@ pub fn occurrences(g: Generator, places: u64, y: u64) -> Occurrences
     by_places(g, places, y)
 }
 
-// The least index that yields y, if one does: the least that agrees in all n places.
+// The least index that yields y, if one does: the least at which all n places are y.
 pub fn position(g: Generator, y: u64) -> Position
     requires { ⌜ Linear g ⌝ }
     ensures { λ r. ⌜ PositionIs (element g) y (modulus g) r ⌝ }

@@ -19,7 +19,7 @@ use Rattle.sequences.proofs.Orbits.{Follows}
 use Rattle.sequences.proofs.Agreement.{Agree, Reduced, agree-of-eq, agree-sym, agree-trans, agree-lower, reduced-eq}
 use Rattle.sequences.proofs.Isometric.{Isometric}
 use Rattle.sequences.proofs.Search.{settles-found, settles-orbit}
-use Rattle.sequences.proofs.Contracting.{Contracting, next-equal}
+use Rattle.sequences.proofs.Contracting.{Contracting, next-equal, resting, rest-orbit}
 
 pub low-is : (m : ℕ) (x : ℕ → ℕ) (i : ℕ) → low m x i ≡ x i % 2 ^ m
 unfolding low
@@ -74,6 +74,12 @@ module _ {n : ℕ} {x : ℕ → ℕ} (m : ℕ) (l : m ≤ n) where
   pub contracting-follows : Contracting n x → Follows (low m x)
   contracting-follows con = record { next = next-equal (low-contracting con) (low-reduced m x) }
 
+  -- it comes to rest after m steps at most
+  pub low-rest : Contracting n x → (t : ℕ) × ((t ≤ m) × IsOrbit (low m x) t 1)
+  low-rest con =
+      let r = resting (low-contracting con) (low-reduced m x) in
+      (r .0, rest-orbit (low-contracting con) (low-reduced m x) (r .1))
+
   -- what a search of x settles, if it settles m places
   module _ {y p k e : ℕ} (s : Settles x y m p k e) where
     low-settles : Settles (low m x) y m p k e
@@ -112,13 +118,13 @@ low-never {x} {y} {p = p} m s l h =
       none = λ i q. s .stops l i (agree-lower (suc p) h (low-with m x (le-refl m) i y .0 (agree-of-eq m q)));
     }
 
--- a number of 2 ^ m or more is none of them
-pub low-wide : (m : ℕ) (x : ℕ → ℕ) {y : ℕ} → 2 ^ m ≤ y → Absent (low m x) y
-low-wide m x l = record { none = λ i e. omega (arith, low-reduced m x .below i) }
+-- a number of 2 ^ n or more is no element of n places
+pub reduced-absent : {n y : ℕ} {x : ℕ → ℕ} → Reduced n x → 2 ^ n ≤ y → Absent x y
+reduced-absent red l = record { none = λ i e. omega (arith, red .below i) }
 
 -- all places
 module _ {n : ℕ} {x : ℕ → ℕ} (red : Reduced n x) where
-  pub low-whole : (i : ℕ) → low n x i ≡ x i
+  low-whole : (i : ℕ) → low n x i ≡ x i
   unfolding low
   low-whole i = mod-eq-of-lt (red .below i)
 

@@ -1,11 +1,11 @@
 -- All indices of a number, in any sequence with any preperiod t and any period P in which equal elements have equal
 -- successors. Let k be the least one. Before t nothing comes again, so k is the only one if it lies there. From t on elements
 -- are equal exactly at indices that are congruent modulo P, so the others are k plus the multiples of P. And the next index
--- that the definition of the return finds is there too, or there is none.
+-- that the definition of the return finds is there too, or there is none. Where P is 1, one element more tells which.
 use mathlib.Core.Path.{_≡_, sym, ap, _∙_}
 use mathlib.Core.Logic.{_↔_, by-cases}
 use Prim.Native.Nat.{ℕ, suc, _+_, _-_, _*_, _/_, _≤_, _<_}
-use native.Mathlib.Nat.{div-add-mod', zero-mod, lt-of-not-le}
+use native.Mathlib.Nat.{div-add-mod', zero-mod, le-refl, lt-of-not-le}
 use native.Mathlib.Decide.{ℕ-discrete, decLe}
 use native.Mathlib.Omega.{arith}
 use Rattle.words.proofs.Congruence.{
@@ -19,10 +19,8 @@ use Rattle.words.proofs.Congruence.{
 use Rattle.sequences.specs.Index.{Located, Absent}
 use Rattle.sequences.specs.Orbit.{returnOf, preperiodOf, periodOf, IsOrbit}
 use Rattle.sequences.specs.Occurrences.{AllIndices, Alone, Recurring}
-use Rattle.sequences.proofs.Agreement.{Reduced}
 use Rattle.sequences.proofs.Indices.{located-demand, absent-demand}
 use Rattle.sequences.proofs.Orbits.{Follows, congruent-equal, equal-congruent, return-from, no-return, preperiod-is, period-is}
-use Rattle.sequences.proofs.Contracting.{Contracting, Rests, next-equal, resting, rest-orbit}
 
 module _ {x : ℕ → ℕ} {y bound k : ℕ} (a : Alone x y bound k) where
   alone-only : (i : ℕ) → (x i ≡ y) ↔ (i ≡ k)
@@ -75,9 +73,6 @@ module _ {x : ℕ → ℕ} {y bound k P : ℕ} (r : Recurring x y bound k P) whe
     pub recurring-return : returnOf x bound k ≡ P - 1
     recurring-return = return-from (r .orbit) (r .room) f k (r .reached)
 
-  pub recurring-reached : preperiodOf x bound ≤ k
-  recurring-reached = rw (preperiod-is (r .orbit) (r .room)) (r .reached)
-
   pub recurring-period : periodOf x bound ≡ P
   recurring-period = period-is (r .orbit) (r .room)
 
@@ -89,43 +84,32 @@ absent-all every h =
       again = λ f r. absurd (omega arith);
     }
 
--- A contracting sequence: what comes again stays, so it is enough to look at the next element.
-module _ {n : ℕ} {x : ℕ → ℕ} (con : Contracting n x) (red : Reduced n x) {y bound k : ℕ} (room : n < bound)
-    (h : Located x y bound k) where
-  rests : (t : ℕ) × Rests x t
-  rests = resting con red
-
-  orbit : (rests .0 ≤ n) × IsOrbit x (rests .0) 1
-  orbit = rest-orbit con red (rests .1)
-
-  pub rests-recurring : x (suc k) ≡ y → Recurring x y bound k 1
-  rests-recurring e =
+-- Where the period is 1, what comes again stays: the next element tells how it goes on.
+module _ {x : ℕ → ℕ} {t y bound k : ℕ} (o : IsOrbit x t 1) (room : t < bound) (h : Located x y bound k) where
+  pub stays-recurring : x (suc k) ≡ y → Recurring x y bound k 1
+  stays-recurring e =
       record {
         located = h;
-        preperiod = rests .0;
-        orbit = orbit .1;
-        room = omega (arith, orbit .0);
+        preperiod = t;
+        orbit = o;
+        room = omega arith;
         reached =
-            elim (decLe (rests .0) k) [
+            elim (decLe t k) [
               | yes l ↦ l
-              | no f ↦ absurd (rests .1 .moves k (lt-of-not-le f) (e ∙ sym (h .yields)))
+              | no f ↦ absurd (o .first k (suc k) (lt-of-not-le f) (le-refl _) (e ∙ sym (h .yields)))
             ];
       }
 
-  pub moves-alone : (x (suc k) ≡ y → ⊥) → Alone x y bound k
-  moves-alone d =
+  pub moves-alone : Follows x → (x (suc k) ≡ y → ⊥) → Alone x y bound k
+  moves-alone f d =
       record {
         located = h;
-        preperiod = rests .0;
+        preperiod = t;
         period = 1;
-        orbit = orbit .1;
-        room = omega (arith, orbit .0);
-        before =
-            elim (decLe (rests .0) k) [ yes l ↦ absurd (d (stays l)) | no f ↦ lt-of-not-le f ];
+        orbit = o;
+        room = omega arith;
+        before = elim (decLe t k) [ yes l ↦ absurd (d (stays l)) | no b ↦ lt-of-not-le b ];
       }
     where
-      stays : rests .0 ≤ k → x (suc k) ≡ y
-      stays l =
-          congruent-equal (record { next = next-equal con red }) (orbit .1) (omega arith) l
-          (from-multiples 0 1 (omega arith))
-          ∙ h .yields
+      stays : t ≤ k → x (suc k) ≡ y
+      stays l = congruent-equal f o (omega arith) l (from-multiples 0 1 (omega arith)) ∙ h .yields

@@ -1,11 +1,12 @@
 -- Orbits with any preperiod t and any period P, over any sequence in which equal elements have equal successors. From t on
 -- the sequence goes round: elements are equal exactly at indices that are congruent modulo P. So every value has an
 -- index below t + P, and from any index s on the sequence has the same period and what is left of the preperiod.
--- And the definitions of preperiod and period find the orbit wherever it lies below their bound.
+-- And the definitions of preperiod and period find the orbit wherever it lies below their bound, and that of the first
+-- return finds P at every index from t on.
 use mathlib.Core.Path.{_≡_, refl, sym, ap, _∙_}
 use mathlib.Core.Logic.{_↔_, _⊎_, inl, inr, ⊎-elim, by-cases}
 use Prim.Native.Nat.{ℕ, zero, suc, _+_, _-_, _*_, _/_, _%_, _≤_, _<_}
-use native.Mathlib.Nat.{add-zero, add-suc, le-refl, le-of-lt, le-trans, div-add-mod', mod-lt, mod-eq-of-lt, zero-mod}
+use native.Mathlib.Nat.{add-zero, add-suc, le-refl, le-trans, div-add-mod', mod-lt}
 use native.Mathlib.Decide.{ℕ-discrete, decLe, decLt}
 use native.Mathlib.Omega.{arith}
 use borrow.Author.Tests.{eq-eqb, ne-eqb, lt-ltb, le-ltb}

@@ -10,7 +10,7 @@ unfoldable pub low : ℕ → (ℕ → ℕ) → ℕ → ℕ
 low m x i = x i % 2 ^ m
 
 -- All indices of y, however large: the one given is the least, or there is none; where it does not recur, no other index
--- yields y; where it does, exactly the index given plus each multiple of `every` yields y.
+-- yields y; where it does, y is yielded exactly at the index given plus a multiple of `every`.
 pub record AllIndices (x : ℕ → ℕ) (y found index recurs every : ℕ) : Type 0 where
   pub least : Demand3 x y found index
   pub once : found ≡ 1 → recurs ≡ 0 → (i : ℕ) → (x i ≡ y) ↔ (i ≡ index)

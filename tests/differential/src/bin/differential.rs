@@ -332,7 +332,7 @@ fn all_low_bits(share: u64) -> Tally {
     each_generator(1..=5, share, |g| {
         for places in 1..=g.width {
             let wanted = model::index_places_by_lists(g, places);
-            for number in 0..=1 << places {
+            for number in 0..=1 << g.width {
                 let wanted = wanted.get(number as usize).copied().unwrap_or_default();
                 tally.index_places_is(g, places, number, wanted);
             }

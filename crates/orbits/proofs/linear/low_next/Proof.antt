@@ -17,7 +17,8 @@ low-bits-requires c κs = search needs
 returns : tie.Need-returns
 returns c =
     let v = c .before in
-    c .low-bits .ensures ∙ low-once (v .before .before .args .g) _ _ (v .before .before .pre .1) (v .before .once .ensures) (v .value-at .ensures)
+    let s = v .before .before in
+    c .low-bits .ensures ∙ low-once (s .args .g) _ _ (s .pre .1) (v .before .once .ensures) (v .value-at .ensures)
 
 pub low-next-spec : {M : Type 1} → statement M
 low-next-spec = tie.close (tie.spec once-requires value-at-requires low-bits-requires returns)

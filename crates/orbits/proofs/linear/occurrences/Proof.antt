@@ -3,7 +3,7 @@ use borrow.Author.Needs.{needs}
 use mathlib.Core.Path.{sym, _∙_}
 use native.Mathlib.Omega.{arith}
 use borrow.Author.Tests.{leb-true, leb-false}
-use Rattle.sequences.proofs.LowPlaces.{low-wide}
+use Rattle.sequences.proofs.LowPlaces.{low-reduced, reduced-absent}
 use Rattle.orbits.proofs.linear.occurrences.Statement.{statement}
 use Rattle.orbits.proofs.linear.occurrences.Tie as tie
 
@@ -20,7 +20,7 @@ by-steps-requires : tie.Need-by-steps-requires
 by-steps-requires c κs = search needs
 
 returns : tie.Need-returns
-returns c = low-wide _ _ (leb-true _ _ (sym (c .before .exceeds .ensures) ∙ c .if1 .taken))
+returns c = reduced-absent (low-reduced _ _) (leb-true _ _ (sym (c .before .exceeds .ensures) ∙ c .if1 .taken))
 
 returns-2 : tie.Need-returns-2
 returns-2 c = search needs

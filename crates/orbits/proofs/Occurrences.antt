@@ -1,6 +1,6 @@
--- The indices at which the elements of a linear generator agree with a number in their low m places. With an odd multiplier
--- they are read off the search, stopped at m places. With an even one the low places of the elements up to index m are
--- passed, and every value of theirs is among these; what comes again stays, so the next element tells how it goes on.
+-- The indices at which the low m places of a linear generator's elements are a given number. With an odd multiplier they are
+-- read off the search, stopped at m places. With an even one the low places of the elements up to index m are passed, and
+-- every value of theirs is among these; what comes again stays, so the next element tells how it goes on.
 use mathlib.Core.Path.{_≡_, sym, ap, _∙_}
 use Prim.Native.Nat.{ℕ, suc, _+_, _*_, _%_, _^_, _≤_, _<_}
 use native.Mathlib.Nat.{lt-of-le-of-lt, lt-of-lt-of-le, lt-of-not-le}

@@ -21,6 +21,7 @@ use Rattle.sequences.proofs.Isometric.{Isometric}
 use Rattle.sequences.proofs.Search.{settles-found, settles-orbit}
 use Rattle.sequences.proofs.Contracting.{Contracting, next-equal, resting, rest-orbit}
 
+-- the definition, and that its elements have m places
 pub low-is : (m : ℕ) (x : ℕ → ℕ) (i : ℕ) → low m x i ≡ x i % 2 ^ m
 unfolding low
 low-is m x i = refl
@@ -29,6 +30,7 @@ pub low-reduced : (m : ℕ) (x : ℕ → ℕ) → Reduced m (low m x)
 unfolding low
 low-reduced m x = record { below = λ i. mod-lt (x i) (pow-pos m) }
 
+-- agreement in k places, up to m
 module _ (m : ℕ) (x : ℕ → ℕ) {k : ℕ} (l : k ≤ m) where
   low-agree : (i : ℕ) → Agree k (low m x i) (x i)
   unfolding low
@@ -43,6 +45,7 @@ module _ (m : ℕ) (x : ℕ → ℕ) {k : ℕ} (l : k ≤ m) where
     λ h. agree-trans (low-agree i) (agree-trans h (agree-sym (low-agree j))),
   )
 
+-- isometric and contracting sequences of n places
 module _ {n : ℕ} {x : ℕ → ℕ} (m : ℕ) (l : m ≤ n) where
   pub low-isometric : Isometric n x → Isometric m (low m x)
   low-isometric iso =

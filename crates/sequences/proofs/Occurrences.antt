@@ -22,6 +22,7 @@ use Rattle.sequences.specs.Occurrences.{AllIndices, Alone, Recurring}
 use Rattle.sequences.proofs.Indices.{located-demand, absent-demand}
 use Rattle.sequences.proofs.Orbits.{Follows, congruent-equal, equal-congruent, return-from, no-return, preperiod-is, period-is}
 
+-- Before the preperiod.
 module _ {x : ℕ → ℕ} {y bound k : ℕ} (a : Alone x y bound k) where
   alone-only : (i : ℕ) → (x i ≡ y) ↔ (i ≡ k)
   alone-only i = (λ e. only e, λ e. ap x e ∙ a .located .yields)
@@ -43,6 +44,7 @@ module _ {x : ℕ → ℕ} {y bound k : ℕ} (a : Alone x y bound k) where
   pub alone-before : k < preperiodOf x bound
   alone-before = rw (preperiod-is (a .orbit) (a .room)) (a .before)
 
+-- From the preperiod on.
 module _ {x : ℕ → ℕ} {y bound k P : ℕ} (r : Recurring x y bound k P) where
   module _ (f : Follows x) where
     recurring-exactly : (i : ℕ) → (x i ≡ y) ↔ ((t : ℕ) × (i ≡ k + t * P))
@@ -76,6 +78,7 @@ module _ {x : ℕ → ℕ} {y bound k P : ℕ} (r : Recurring x y bound k P) whe
   pub recurring-period : periodOf x bound ≡ P
   recurring-period = period-is (r .orbit) (r .room)
 
+-- No index at all.
 pub absent-all : {x : ℕ → ℕ} {y : ℕ} (every : ℕ) → Absent x y → AllIndices x y 0 0 0 every
 absent-all every h =
     record {

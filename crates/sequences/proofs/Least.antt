@@ -46,3 +46,14 @@ least-unique {p} {bound} {k} l = same (least p bound) (least-least p bound)
           | yes h ↦ elim (decLe k i) [ yes h' ↦ le-antisymm h h' | no f ↦ absurd (not-below m l (lt-of-not-le f)) ]
           | no f ↦ absurd (not-below l m (lt-of-not-le f))
         ]
+
+-- two tests that are the same everywhere
+pub least-same : {p q : ℕ → Bool} (bound : ℕ) → ((i : ℕ) → p i ≡ q i) → least p bound ≡ least q bound
+least-same {p} {q} bound e =
+    let l = least-least q bound in
+    least-unique
+    (record {
+      within = l .within;
+      holds = λ h. e (least q bound) ∙ l .holds h;
+      first = λ j h. e j ∙ l .first j h;
+    })

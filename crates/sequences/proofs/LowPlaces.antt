@@ -14,7 +14,7 @@ use Rattle.sequences.specs.Index.{indexOf, Located, Absent}
 use Rattle.sequences.specs.Orbit.{IsOrbit}
 use Rattle.sequences.specs.Places.{Settles}
 use Rattle.sequences.specs.Occurrences.{low, Recurring}
-use Rattle.sequences.proofs.Least.{least-least, least-unique}
+use Rattle.sequences.proofs.Least.{least-same}
 use Rattle.sequences.proofs.Orbits.{Follows}
 use Rattle.sequences.proofs.Agreement.{Agree, Reduced, agree-of-eq, agree-sym, agree-trans, agree-lower, reduced-eq}
 use Rattle.sequences.proofs.Isometric.{Isometric}
@@ -142,14 +142,7 @@ module _ {n : ℕ} {x : ℕ → ℕ} (red : Reduced n x) where
   -- the definition of the index finds the same
   pub whole-index : (bound y : ℕ) → indexOf (low n x) bound y ≡ indexOf x bound y
   unfolding indexOf
-  whole-index bound y =
-      let f = least-least (λ i. eqb (x i) y) bound in
-      least-unique
-      (record {
-        within = f .within;
-        holds = λ h. ap (λ (v : ℕ). eqb v y) (low-whole _) ∙ f .holds h;
-        first = λ j h. ap (λ (v : ℕ). eqb v y) (low-whole j) ∙ f .first j h;
-      })
+  whole-index bound y = least-same bound (λ i. ap (λ (v : ℕ). eqb v y) (low-whole i))
 
   pub whole-absent : {y : ℕ} → Absent (low n x) y → Absent x y
   whole-absent h = record { none = λ i e. h .none i (low-whole i ∙ e) }

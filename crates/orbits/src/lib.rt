@@ -1,5 +1,5 @@
 // The orbit of a generator, the least index of a number, and all indices of a number in the low places, for every generator;
-// and for odd multipliers the steps between two numbers. None of them steps through the indices.
+// and for odd multipliers the steps between two numbers. No search makes more than n + 1 rounds, n the width.
 ghost use mathlib.Core.Path.{_≡_};
 ghost use Rattle.generator.specs.Refusals.{checkNumber};
 ghost use Rattle.orbits.specs.Orbit.{OrbitPromise, orbitOf};

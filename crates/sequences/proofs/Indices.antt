@@ -28,16 +28,20 @@ module _ {x : ℕ → ℕ} {y bound k : ℕ} (h : Located x y bound k) where
         never = (λ f. absurd (omega arith), λ none. absurd (none k (h .yields)));
       }
 
+-- where no index below the bound yields y, the definition gives the bound
+pub none-bound : (x : ℕ → ℕ) (y bound : ℕ) → ((i : ℕ) → i < bound → x i ≡ y → ⊥) → indexOf x bound y ≡ bound
+unfolding indexOf
+none-bound x y bound h =
+    least-unique
+    (record {
+      within = le-refl bound;
+      holds = λ l. absurd (omega arith);
+      first = λ j l. ne-eqb (x j) y (h j l);
+    })
+
 module _ {x : ℕ → ℕ} {y : ℕ} (h : Absent x y) where
   pub absent-is : (bound : ℕ) → indexOf x bound y ≡ bound
-  unfolding indexOf
-  absent-is bound =
-      least-unique
-      (record {
-        within = le-refl bound;
-        holds = λ l. absurd (omega arith);
-        first = λ j l. ne-eqb (x j) y (h .none j);
-      })
+  absent-is bound = none-bound x y bound (λ i l. h .none i)
 
   pub absent-demand : Demand3 x y 0 0
   absent-demand =
@@ -47,7 +51,7 @@ module _ {x : ℕ → ℕ} {y : ℕ} (h : Absent x y) where
         never = (λ f. h .none, λ none. refl);
       }
 
--- where the definition gives the bound, no index below it yields y
+-- and where the definition gives the bound, no index below it yields y
 pub bound-none : (x : ℕ → ℕ) (y bound : ℕ) → indexOf x bound y ≡ bound → (i : ℕ) → i < bound → x i ≡ y → ⊥
 unfolding indexOf
 bound-none x y bound e i l =

@@ -10,3 +10,4 @@ pub mod Search
 pub mod Contracting
 pub mod LowPlaces
 pub mod Occurrences
+pub mod Distinct

@@ -6,4 +6,5 @@ pub mod Orbit
 pub mod Index
 pub mod Gap
 pub mod Occurrences
+pub mod Distinct
 pub mod Places

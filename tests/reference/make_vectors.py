@@ -510,10 +510,42 @@ def places_calls():
             yield "B", (*g, m, number)
 
 
+# For the variety: even multipliers whose preperiods are short.
+SHORT_PREPERIODS = (1, 0, 1, 0), (4, 2, 0, 1), (4, 6, 1, 1), (64, 0, 9, 4), (64, 0, 9, 9), (64, 2**32, 5, 9)
+
+
+def varieties_in_the_preperiod():
+    """All short runs about document 01's preperiods; about longer ones, those that end before the
+    sequence comes to rest, when it does, and behind."""
+    for g, first, count in product(((4, 2, 0, 1), (4, 6, 1, 1)), range(7), range(1, 8)):
+        yield *g, first, count
+    for g in (*SHORT_PREPERIODS, *LONG_PREPERIODS):
+        t = ref.orbit(*g)[1]
+        for first in sorted({0, 1, t // 2, max(t - 1, 0), t, t + 1, TOP - 1}):
+            left = max(t - first, 0)
+            for count in sorted({1, max(left, 1), left + 1, left + 2, 2**32, TOP - first}):
+                yield *g, first, min(count, TOP - first)
+
+
+def varieties_about_the_period():
+    """A count of one less than the period, as many, one more, and all there are."""
+    for g in (*PERIODS, (4, 5, 3, 1), (5, 3, 0, 2), (10, 371, 995, 73)):
+        period = 2 ** ref.orbit(*g)[2]
+        for first in (0, 1, below(2**63), TOP - 1):
+            for count in sorted({max(period - 1, 1), period, period + 1, TOP}):
+                yield *g, first, min(count, TOP - first)
+
+
+def variety_calls():
+    for part in (varieties_in_the_preperiod, varieties_about_the_period):
+        for run in part():
+            yield "V", run
+
+
 def all_calls():
     refused = refused_generators, refused_runs, one_way, refused_archives
     accepted = long_sequences, wide_calls, printed_tables, valid_calls, reading_calls, archive_calls, remaking_calls
-    parts = bounds, *refused, *accepted, gap_calls, places_calls
+    parts = bounds, *refused, *accepted, gap_calls, places_calls, variety_calls
     return dict.fromkeys((code, tuple(args)) for part in parts for code, args in part())
 
 

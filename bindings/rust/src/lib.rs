@@ -257,12 +257,14 @@ pub fn customary_multiplier(width: u64) -> Result<u64, Refusal> {
     value(raw::customary_multiplier(width))
 }
 
-/// The smaller of the run's count and its generator's period.
+/// How many different numbers the run shows, those of a preperiod included.
 ///
 /// ```
 /// use noonpasture::{variety, Refusal, Run};
 ///
 /// assert_eq!(variety(Run::from([4, 5, 3, 1, 0, 20])), Ok(16));
+/// assert_eq!(variety(Run::from([4, 2, 0, 1, 0, 10])), Ok(5));
+/// assert_eq!(variety(Run::from([4, 2, 0, 1, 3, 10])), Ok(2));
 /// assert_eq!(variety(Run::from([4, 5, 3, 1, 0, 0])), Err(Refusal::RunOutOfRange));
 /// ```
 #[inline]

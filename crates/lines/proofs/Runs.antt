@@ -1,5 +1,5 @@
 -- Laws of runs: what the refusal table leaves of an accepted one, how long its line is, and its variety.
-use mathlib.Core.Path.{_≡_, sym, ap, _∙_}
+use mathlib.Core.Path.{_≡_, sym, _∙_}
 use mathlib.Core.Bool.{false, cond}
 use mathlib.Core.Logic.{by-cases}
 use Prim.Native.Nat.{ℕ, suc, _+_, _^_, _-_, _≤_, _<_, min}
@@ -9,22 +9,25 @@ use native.Mathlib.Omega.{arith}
 use lib.Dec.{eqb, leb}
 use lib.ListN.{length, length-append}
 use borrow.Author.Tests.{eqb-false, leb-false}
-use Rattle.sequences.proofs.Orbits.{period-is}
+use Rattle.sequences.specs.Orbit.{IsOrbit}
+use Rattle.sequences.specs.Distinct.{distinctOf}
+use Rattle.sequences.proofs.Orbits.{Follows}
+use Rattle.sequences.proofs.Distinct.{distinct-from, distinct-means-from}
 use Rattle.generator.specs.declared.Refusal.{Refusal}
 use Rattle.generator.specs.declared.ValueAnswer.the-variants.{Value, Refused}
-use Rattle.generator.specs.Recurrence.{modulus}
+use Rattle.generator.specs.Recurrence.{modulus, element}
 use Rattle.generator.specs.Refusals.{refusalOf, numberOf}
 use Rattle.generator.specs.Replies.{valueOf}
 use Rattle.generator.proofs.Refusals.{Accepted, accepted, modulus-word, cond-none, or-false, or-else-none}
+use Rattle.generator.proofs.Elements.{element-follows}
 use Rattle.generator.proofs.Replies.{number-nonzero, value-refused, value-given}
 use Rattle.orbits.specs.declared.kinds.Cycle.{Cycle}
 use Rattle.orbits.specs.Orbit.{IsCycle}
-use Rattle.orbits.proofs.Orbits.{cycle-room}
 use Rattle.fields.specs.Digits.{digitsOf}
 use Rattle.fields.specs.Line.{fieldsLine}
 use Rattle.fields.proofs.Digits.{digits-length}
 use Rattle.lines.specs.declared.Run.{Run}
-use Rattle.lines.specs.Run.{runRefusal, countRefused}
+use Rattle.lines.specs.Run.{shows, runRefusal, countRefused}
 use Rattle.lines.specs.Line.{lineOf, Words}
 use Rattle.lines.specs.Variety.{varietyOf, VarietyPromise}
 
@@ -100,24 +103,30 @@ line-short {run} v =
           digits-length (run .count) j q,
         )
 
--- the variety, by the period less 1
+-- the variety, by the orbit: whichever preperiod and period are the generator's, the count of different values is the same
 module _ (run : Run) {cycle : Cycle} {v : ℕ} (z : runRefusal run ≡ 0) (is : IsCycle (run .generator) cycle)
-    (e : v ≡ min (run .count) (cycle .last + 1)) where
+    (e : v ≡ min (run .count) (cycle .preperiod - run .first + (cycle .last + 1))) where
+  follows : Follows (element (run .generator))
+  follows = element-follows (run .generator)
+
+  distinct-by : {t P : ℕ} → IsOrbit (element (run .generator)) t P →
+      distinctOf (shows run) (run .count) ≡ min (run .count) (t - run .first + P)
+  unfolding shows
+  distinct-by o = distinct-from follows o (run .first) (run .count)
+
   pub variety-given : VarietyPromise run (valueOf (Value v))
-  unfolding varietyOf
+  unfolding varietyOf shows
   variety-given =
       record {
-        equals = value-given _ z (e ∙ ap (min (run .count)) (sym (period-is (is .orbit) (cycle-room is))));
-        meaning =
-            λ q.
-            record {
-              preperiod = cycle .preperiod;
-              period = cycle .last + 1;
-              orbit = is .orbit;
-              smaller = e;
-            };
+        equals = value-given _ z (e ∙ sym (distinct-by (is .orbit)));
+        meaning = λ q. rw e (distinct-means-from follows (is .orbit) (run .first) (run .count));
+        by-orbit = λ q t P o. e ∙ sym (distinct-by (is .orbit)) ∙ distinct-by o;
       }
 
 pub variety-refused : (run : Run) (x : Refusal) → numberOf x ≡ runRefusal run → VarietyPromise run (valueOf (Refused x))
 variety-refused run x e =
-    record { equals = value-refused x _ e; meaning = λ z. absurd (number-nonzero x z) }
+    record {
+      equals = value-refused x _ e;
+      meaning = λ z. absurd (number-nonzero x z);
+      by-orbit = λ z. absurd (number-nonzero x z);
+    }

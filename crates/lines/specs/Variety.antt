@@ -1,25 +1,24 @@
--- The variety of a run (SCOPE 4.6).
+-- The variety of a run: how many different numbers it shows (document 02, note 4; SCOPE 4.6).
 use mathlib.Core.Path.{_≡_}
-use Prim.Native.Nat.{ℕ, min}
-use Rattle.sequences.specs.Orbit.{periodOf, IsOrbit}
-use Rattle.generator.specs.Recurrence.{modulus, element}
+use Prim.Native.Nat.{ℕ, _+_, _-_, min}
+use Rattle.sequences.specs.Orbit.{IsOrbit}
+use Rattle.sequences.specs.Distinct.{distinctOf, Distinct}
+use Rattle.generator.specs.Recurrence.{element}
 use Rattle.generator.specs.declared.ValueReply.{ValueReply}
 use Rattle.generator.specs.Replies.{valueReply}
 use Rattle.lines.specs.declared.Run.{Run}
-use Rattle.lines.specs.Run.{runRefusal}
+use Rattle.lines.specs.Run.{shows, runRefusal}
 
--- The smaller of the count and the period.
+-- The number of different values among its positions.
 unfoldable pub varietyOf : Run → ℕ
-varietyOf run = min (run .count) (periodOf (element (run .generator)) (modulus (run .generator)))
+varietyOf run = distinctOf (shows run) (run .count)
 
--- The same without a bound: v is the smaller of the count and the period of the generator's orbit.
-pub record IsVariety (run : Run) (v : ℕ) : Type 0 where
-  pub preperiod : ℕ
-  pub period : ℕ
-  pub orbit : IsOrbit (element (run .generator)) preperiod period
-  pub smaller : v ≡ min (run .count) period
-
--- The promise of the call: the reply is the definition's, and an accepted one means this.
+-- The promise of the call: the reply is the definition's; an accepted one, v, means that the first v positions show
+-- different numbers and every position one of these; and whatever the orbit is, v is the smaller of the count and what is
+-- left of the preperiod at the run's first index, with the period.
 pub record VarietyPromise (run : Run) (reply : ValueReply) : Type 0 where
   pub equals : reply ≡ valueReply (runRefusal run) (varietyOf run)
-  pub meaning : reply .refusal ≡ 0 → IsVariety run (reply .value)
+  pub meaning : reply .refusal ≡ 0 → Distinct (shows run) (run .count) (reply .value)
+  pub by-orbit :
+      reply .refusal ≡ 0 → (t P : ℕ) → IsOrbit (element (run .generator)) t P →
+      reply .value ≡ min (run .count) (t - run .first + P)

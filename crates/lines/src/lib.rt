@@ -7,6 +7,7 @@ ghost use Rattle.lines.specs.ReadLine.{ReadPromise, replyOf};
 ghost use Rattle.lines.specs.WriteLine.{WritePromise};
 ghost use Rattle.lines.specs.Variety.{VarietyPromise};
 ghost use Rattle.lines.specs.Remake.{RemakePromise};
+use distinct::distinct_values;
 use fields::line;
 use filling::fill;
 use filling::fitting;
@@ -18,6 +19,7 @@ use numbers::numbers_of;
 use numbers::run_of;
 use orbits::kinds::cycle_of;
 
+pub mod distinct;
 pub mod filling;
 pub mod numbers;
 pub mod plain;
@@ -91,7 +93,7 @@ pub fn write_line(run: Run, buffer: &mut [u8]) -> ValueAnswer
     ValueAnswer::Value(n as u64)
 }
 
-// The smaller of a run's count and its period.
+// How many different numbers the run shows.
 pub fn variety(run: Run) -> ValueAnswer
     ensures { λ r. ⌜ VarietyPromise run (valueOf r) ⌝ }
 {
@@ -99,14 +101,8 @@ pub fn variety(run: Run) -> ValueAnswer
     if let Check::Refused(refusal) = verdict {
         return ValueAnswer::Refused(refusal);
     }
-    let count = run.count;
     let cycle = cycle_of(run.generator);
-    let last = cycle.last;
-    if last < count {
-        let period = last + 1;
-        return ValueAnswer::Value(period);
-    }
-    ValueAnswer::Value(count)
+    ValueAnswer::Value(distinct_values(cycle, run.first, run.count))
 }
 
 // Writes what the run shows from this position on to the buffer's front, as much as both have, and gives how many numbers.

@@ -90,7 +90,7 @@ pub extern "C" fn np_customary_multiplier(width: u64) -> ValueReply
     of_value(generator::customary_multiplier(width))
 }
 
-// The smaller of the count and the period.
+// How many different numbers the run shows.
 #[no_mangle]
 pub extern "C" fn np_variety(run: Run) -> ValueReply
     ensures { λ r. ⌜ VarietyPromise run r ⌝ }

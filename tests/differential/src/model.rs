@@ -1,6 +1,8 @@
 //! Every call of the header once more, independently: sequences by stepping where that is short
 //! and by formula elsewhere, lines by splitting the bytes.
 
+use std::collections::HashSet;
+
 use crate::calls::*;
 use crate::formula;
 use crate::trail::{low, step, Trail};
@@ -79,6 +81,19 @@ fn gap_of(g: Generator, from: u64, to: u64) -> Option<i64> {
     let (forward, backward) = (steps_between(g, from, to)?, steps_between(g, to, from)?);
     let gap = if forward < backward { forward.into() } else { -i128::from(backward) };
     Some(gap.try_into().expect("a gap of more than half a period"))
+}
+
+/// How many different numbers the run shows. Behind as many positions as a trail has elements nothing
+/// is new; of a sequence that is not stepped through every element is in its period.
+fn variety_of(run: Run) -> u64 {
+    let g = run.generator;
+    if !is_stepped(g) {
+        return (1u128 << formula::exponent(g)).min(run.count.into()) as u64;
+    }
+    let trail = Trail::of(g);
+    let positions = 0..run.count.min(trail.size());
+    let shown: HashSet<u64> = positions.map(|position| trail.element(run.first + position)).collect();
+    shown.len() as u64
 }
 
 /// The least position of the run that shows the number.
@@ -197,12 +212,24 @@ pub fn predecessor(g: Generator, number: u64) -> Value {
 
 pub fn variety(run: Run) -> Value {
     match run_refusal(run) {
-        0 => {
-            let period = 1u128 << orbit_of(run.generator).1;
-            Value { refusal: 0, value: period.min(run.count.into()) as u64 }
-        }
+        0 => Value { refusal: 0, value: variety_of(run) },
         refusal => Value { refusal, value: 0 },
     }
+}
+
+/// The same of the runs of 0, 1, 2, .. positions from an index on, by the definition alone, at a narrow
+/// width: the elements are stepped through, and each that was not seen before is counted.
+pub fn varieties_by_counting(g: Generator, first: u64, longest: u64) -> Vec<Value> {
+    let mut seen = vec![false; 1 << g.width];
+    let mut x = (0..first).fold(g.seed, |x, _| step(g, x));
+    let mut varieties = vec![Value { refusal: RUN_OUT_OF_RANGE, value: 0 }];
+    let mut value = 0;
+    for _ in 0..longest {
+        value += u64::from(!std::mem::replace(&mut seen[x as usize], true));
+        varieties.push(Value { refusal: 0, value });
+        x = step(g, x);
+    }
+    varieties
 }
 
 pub fn customary_multiplier(width: u64) -> Value {
@@ -404,6 +431,45 @@ mod tests {
                         let wanted = lists.get(number as usize).copied().unwrap_or_default();
                         assert_eq!(index_places(g, places, number), wanted, "{places}, {number} in {g:?}");
                     }
+                }
+            }
+        }
+    }
+
+    #[test]
+    fn variety_agrees_with_the_counting() {
+        for width in 1..=4 {
+            let size = 1 << width;
+            for k in 0..size * size * size {
+                let (multiplier, increment, seed) = (k / size / size, k / size % size, k % size);
+                let generator = Generator { width, multiplier, increment, seed };
+                for first in 0..6 {
+                    for (count, wanted) in (0..).zip(varieties_by_counting(generator, first, 20)) {
+                        let run = Run { generator, first, count };
+                        assert_eq!(variety(run), wanted, "{run:?}");
+                    }
+                }
+            }
+        }
+    }
+
+    /// The last position that is counted shows what none before it does, and those behind it what an
+    /// earlier one does.
+    #[test]
+    fn variety_agrees_with_its_definition() {
+        let mut r = Random::new(5);
+        for _ in 0..100_000 {
+            let run = samples::run(&mut r);
+            let Value { refusal, value } = variety(run);
+            if refusal != 0 {
+                continue;
+            }
+            let first_shown = |position| position_of(run, element_of(run.generator, run.first + position));
+            assert_eq!(first_shown(value - 1), Some(value - 1), "{run:?}");
+            if value < run.count {
+                for position in [value, value + r.below(run.count - value), run.count - 1] {
+                    let earlier = first_shown(position).unwrap();
+                    assert!(earlier < value, "position {position} of {run:?}");
                 }
             }
         }

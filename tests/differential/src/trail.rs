@@ -41,6 +41,11 @@ impl Trail {
         self.elements[place as usize]
     }
 
+    /// How many different elements there are.
+    pub fn size(&self) -> u64 {
+        self.elements.len() as u64
+    }
+
     pub fn preperiod(&self) -> u64 {
         self.preperiod as u64
     }

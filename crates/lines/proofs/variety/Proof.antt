@@ -1,7 +1,6 @@
--- `lines::variety` meets its contract: the period less 1 fits a word, and where it is below the count so does the period.
+-- `lines::variety` meets its contract: how many different values the run has is read off the generator's orbit.
 use borrow.Author.Needs.{needs}
 use mathlib.Core.Path.{_≡_}
-use native.Mathlib.Omega.{arith}
 use Rattle.generator.proofs.Replies.{number-accepted, number-refused}
 use Rattle.lines.specs.Run.{runRefusal}
 use Rattle.lines.proofs.Runs.{valid-run, variety-refused, variety-given}
@@ -29,16 +28,11 @@ accepted c = number-accepted (c .before .before .checked .ensures) (c .enum-told
 cycle-of-requires : tie.Need-cycle-of-requires
 cycle-of-requires c κs = valid-run _ (accepted c) .generator
 
-add-period : tie.Need-add-period
-add-period c = search needs
+distinct-values-requires : tie.Need-distinct-values-requires
+distinct-values-requires c κs = search needs
 
 returns-2 : tie.Need-returns-2
-returns-2 c =
-    variety-given _ (accepted (c .before .before)) (c .before .cycle-of .ensures) (omega (arith, c .if1 .taken))
-
-returns-3 : tie.Need-returns-3
-returns-3 c =
-    variety-given _ (accepted (c .before .before)) (c .before .cycle-of .ensures) (omega (arith, c .if1 .left))
+returns-2 c = variety-given _ (accepted (c .before .before)) (c .before .cycle-of .ensures) (c .distinct-values .ensures)
 
 pub variety-spec : {M : Type 1} → statement M
 variety-spec =
@@ -49,6 +43,5 @@ variety-spec =
     returns
     enum-told
     cycle-of-requires
-    add-period
-    returns-2
-    returns-3)
+    distinct-values-requires
+    returns-2)

@@ -1,5 +1,6 @@
 //! Compares every call of the proved library with the model: on all generators of widths 1 to 5, on
-//! all their low bits, on all pairs of numbers for the gap, and on random calls, accepted and refused.
+//! all their low bits, on all their short runs for the variety and all pairs of numbers for the gap,
+//! and on random calls, accepted and refused.
 //! Ends with status 1 at the first difference.
 //!
 //!     cargo run --release --bin differential
@@ -244,7 +245,11 @@ impl Tally {
     }
 
     fn variety(&mut self, run: Run) {
-        self.compare(Kind::Variety, &run, library::variety(run), model::variety(run));
+        self.variety_is(run, model::variety(run));
+    }
+
+    fn variety_is(&mut self, run: Run, wanted: Value) {
+        self.compare(Kind::Variety, &run, library::variety(run), wanted);
     }
 
     fn customary_multiplier(&mut self, width: u64) {
@@ -369,6 +374,43 @@ fn chosen_low_bits() -> Tally {
                 for number in [low, low ^ 1, low ^ 1 << places.saturating_sub(1).min(63), shown] {
                     tally.index_places(g, places, number);
                 }
+            }
+        }
+    }
+    tally
+}
+
+// Varieties: of every short run at a narrow width, counted outright; of chosen generators.
+
+const SHORT: u64 = 40;
+
+fn all_short_runs(share: u64) -> Tally {
+    let mut tally = Tally::default();
+    each_generator(1..=4, share, |generator| {
+        for first in 0..=SHORT {
+            let counted = model::varieties_by_counting(generator, first, SHORT);
+            for (count, wanted) in (0..).zip(counted) {
+                tally.variety_is(Run { generator, first, count }, wanted);
+            }
+        }
+    });
+    tally
+}
+
+/// Even multipliers, and those of chosen periods: runs that start about the preperiod and whose count
+/// is near what is new to them, as far as there are indices.
+fn chosen_varieties() -> Tally {
+    let mut tally = Tally::default();
+    let odd = PERIODS.iter().map(|(_, numbers)| *numbers);
+    for [width, multiplier, increment, seed] in odd.chain(EVEN) {
+        let generator = Generator { width, multiplier, increment, seed };
+        let OrbitReply { preperiod, exponent, .. } = model::orbit(generator);
+        for first in (0..=preperiod + 1).chain([1 << 32, 1 << 63, u64::MAX - 1]) {
+            let new = u128::from(preperiod.saturating_sub(first)) + (1 << exponent);
+            let counts = [1, new - 1, new, new + 1, 1 << 40, 1 << 63, u64::MAX.into()];
+            for count in counts.map(|count| count.min(u64::MAX.into()) as u64) {
+                tally.variety(Run { generator, first, count });
+                tally.variety(Run { generator, first, count: count.min(u64::MAX - first) });
             }
         }
     }
@@ -529,6 +571,8 @@ fn main() {
     shared(all_generators).print("all generators of widths 1 to 5");
     shared(all_low_bits).print("all low bits, widths 1 to 5");
     chosen_low_bits().print("low bits, chosen generators");
+    shared(all_short_runs).print("all short runs, widths 1 to 4");
+    chosen_varieties().print("varieties, chosen generators");
     shared(all_pairs).print("all pairs, widths 1 to 4");
     chosen_periods().print("periods of 1, 2, 2^63 and 2^64");
     shared(random_calls).print("random calls");

@@ -1,0 +1,30 @@
+// How many different values some elements of a sequence have, read off its orbit.
+ghost use mathlib.Core.Path.{_≡_};
+ghost use Prim.Native.Nat.{_+_, _-_, min};
+use orbits::kinds::Cycle;
+
+// What is left of a preperiod at an index.
+pub fn preperiod_left(preperiod: u64, index: u64) -> u64
+    ensures { λ r. ⌜ r ≡ preperiod - index ⌝ }
+{
+    if preperiod < index {
+        return 0;
+    }
+    preperiod - index
+}
+
+// The smaller of the count of elements and the sum of what is left of the preperiod at the first of them and the period. The
+// sum may be above 2^64; it is formed only where the count is not below it.
+pub fn distinct_values(cycle: Cycle, first: u64, count: u64) -> u64
+    ensures { λ r. ⌜ r ≡ min count (cycle .preperiod - first + (cycle .last + 1)) ⌝ }
+{
+    let left = preperiod_left(cycle.preperiod, first);
+    if left < count {
+        let last = cycle.last;
+        if last < count - left {
+            let all = left + last + 1;
+            return all;
+        }
+    }
+    count
+}

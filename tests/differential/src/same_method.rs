@@ -173,6 +173,28 @@ fn gap_of(g: Generator, from: u64, to: u64) -> Option<i64> {
     Some(if forward > last / 2 { forward | !last } else { forward } as i64)
 }
 
+/// The preperiod and the period less 1. With an even multiplier neighbours first differ a number of
+/// places higher at each step, until all places agree.
+fn cycle_of(g: Generator) -> (u64, u64) {
+    if g.multiplier % 2 == 1 {
+        let period = index_up_the_places(g, g.seed).map_or(1, |(_, period)| period);
+        return (0, period.wrapping_sub(1));
+    }
+    let place = Map::step(g).apply(g.seed).wrapping_sub(g.seed).trailing_zeros().into();
+    (g.width.saturating_sub(place).div_ceil(g.multiplier.trailing_zeros().into()), 0)
+}
+
+#[inline(never)]
+pub fn variety(run: Run) -> Value {
+    let refusal = run_refusal(run);
+    if refusal != 0 {
+        return Value { refusal, value: 0 };
+    }
+    let (preperiod, last) = cycle_of(run.generator);
+    let last_new = preperiod.saturating_sub(run.first) + last;
+    Value { refusal: 0, value: run.count.min(last_new.saturating_add(1)) }
+}
+
 #[inline(never)]
 pub fn element(g: Generator, index: u64) -> Value {
     match generator_refusal(g) {

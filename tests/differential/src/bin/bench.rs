@@ -120,6 +120,12 @@ fn never_at(r: &mut Random, place: u64) -> (Generator, u64) {
     (Generator { width: 64, multiplier, increment, seed }, seed ^ 1 << (place - 1))
 }
 
+/// Elements 1 and 0 differ in the lowest place, and each step moves that up by one: the preperiod is 64.
+fn even_generator(r: &mut Random) -> Generator {
+    let (multiplier, seed) = (r.word() & !3 | 2, r.word());
+    Generator { width: 64, multiplier, increment: r.word() & !1 | !seed & 1, seed }
+}
+
 fn wide_run(r: &mut Random) -> Run {
     Run { generator: wide_generator(r), first: r.word() / 2, count: 1 + r.below(1000) }
 }
@@ -173,6 +179,10 @@ fn index_and(distance: impl Fn(u64, u64, u64, u64) -> u64, inputs: &[(Generator,
         |(g, y)| library::index(g, y).index,
         |(g, y)| distance(g.multiplier, g.increment, g.seed, y),
     )
+}
+
+fn variety(runs: &[Run]) -> Timing {
+    measured(runs, library::variety, same_method::variety)
 }
 
 fn lookup(inputs: &[(Vec<u8>, u64)]) -> Timing {
@@ -274,6 +284,18 @@ fn growth(out: &Output, r: &mut Random) {
     }
 }
 
+/// Random numbers of their own, so that the other rows keep theirs. The runs of even multipliers start
+/// behind the preperiod, where every version of the library gives the same.
+fn varieties(out: &Output) {
+    let r = &mut Random::new(SEED + 2);
+    out.heading("variety", "Rust");
+    let odd = several(|_| wide_run(r));
+    out.row("variety", "width 64, odd multiplier", || variety(&odd));
+    let even =
+        several(|_| Run { generator: even_generator(r), first: 64 + r.bits(32), count: 1 + r.below(1000) });
+    out.row("variety", "width 64, even multiplier", || variety(&even));
+}
+
 /// The rows of index_places. They have random numbers of their own, so that the other rows keep theirs.
 #[cfg(feature = "index-places")]
 mod places {
@@ -298,11 +320,9 @@ mod places {
         (full_period_generator(r, width), r.bits(width))
     }
 
-    /// Elements 1 and 0 differ in the lowest place, and each step moves that up by one: the preperiod is
-    /// 64, and the number one of the elements before it.
+    /// The number is one of the elements in the preperiod.
     fn even(r: &mut Random) -> (Generator, u64) {
-        let (multiplier, seed) = (r.word() & !3 | 2, r.word());
-        let g = Generator { width: 64, multiplier, increment: r.word() & !1 | !seed & 1, seed };
+        let g = even_generator(r);
         (g, same_method::element(g, r.below(64)).value)
     }
 
@@ -365,6 +385,7 @@ fn main() {
     peers_way(&out, &mut r);
     beside_index(&out, &mut r);
     growth(&out, &mut r);
+    varieties(&out);
     #[cfg(feature = "index-places")]
     places::rows(&out);
 }

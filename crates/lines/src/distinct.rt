@@ -13,8 +13,8 @@ pub fn preperiod_left(preperiod: u64, index: u64) -> u64
     preperiod - index
 }
 
-// The smaller of the count of elements and the sum of what is left of the preperiod at the first of them and the period. The
-// sum may be above 2^64; it is formed only where the count is not below it.
+// Of `count` elements from index `first` on: the smaller of the count and the sum of the period and what is left of the
+// preperiod. The sum may not fit a word; it is formed only where the count is not below it.
 pub fn distinct_values(cycle: Cycle, first: u64, count: u64) -> u64
     ensures { λ r. ⌜ r ≡ min count (cycle .preperiod - first + (cycle .last + 1)) ⌝ }
 {

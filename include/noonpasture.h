@@ -87,8 +87,8 @@ np_value        np_predecessor(np_generator g, uint64_t value);
 /* The largest odd power of 5 below 2^width, for widths from 3 to 64. Refusal 3. */
 np_value        np_customary_multiplier(uint64_t width);
 
-/* How many different numbers the run shows, those of a preperiod included: with t the preperiod and P
- * the period, the smaller of count and P plus what t is above first, if anything. Refusals 3, 4, 5. */
+/* How many different numbers the run shows, those of a preperiod included: with t the preperiod, P the
+ * period and r the larger of t - first and 0, the smaller of count and r + P. Refusals 3, 4, 5. */
 np_value        np_variety(np_run run);
 
 /* Writes the run's line from the buffer's first byte on, keeps the bytes behind it, and gives the

@@ -515,8 +515,8 @@ SHORT_PREPERIODS = (1, 0, 1, 0), (4, 2, 0, 1), (4, 6, 1, 1), (64, 0, 9, 4), (64,
 
 
 def varieties_in_the_preperiod():
-    """All short runs about document 01's preperiods; about longer ones, those that end before the
-    sequence comes to rest, when it does, and behind."""
+    """All short runs about document 01's preperiods; about these and others, short and long, runs that
+    end before the sequence comes to rest, when it does, and behind."""
     for g, first, count in product(((4, 2, 0, 1), (4, 6, 1, 1)), range(7), range(1, 8)):
         yield *g, first, count
     for g in (*SHORT_PREPERIODS, *LONG_PREPERIODS):
@@ -536,8 +536,15 @@ def varieties_about_the_period():
                 yield *g, first, min(count, TOP - first)
 
 
+def refused_varieties():
+    """A count of 0 and a run that goes too far: beside a refused width, beside a refused operand, alone."""
+    for g in ((65, 2, 0, 16), (4, 2, 0, 16), (4, 2, 0, 1)):
+        for first, count in ((0, 0), (TOP, 1)):
+            yield *g, first, count
+
+
 def variety_calls():
-    for part in (varieties_in_the_preperiod, varieties_about_the_period):
+    for part in (varieties_in_the_preperiod, varieties_about_the_period, refused_varieties):
         for run in part():
             yield "V", run
 

@@ -10,9 +10,8 @@ use lib.Dec.{eqb, leb}
 use lib.ListN.{length, length-append}
 use borrow.Author.Tests.{eqb-false, leb-false}
 use Rattle.sequences.specs.Orbit.{IsOrbit}
-use Rattle.sequences.specs.Distinct.{distinctOf}
-use Rattle.sequences.proofs.Orbits.{Follows}
-use Rattle.sequences.proofs.Distinct.{distinct-from, distinct-means-from}
+use Rattle.sequences.specs.Distinct.{Distinct}
+use Rattle.sequences.proofs.Distinct.{distinct-is, distinct-only, distinct-from}
 use Rattle.generator.specs.declared.Refusal.{Refusal}
 use Rattle.generator.specs.declared.ValueAnswer.the-variants.{Value, Refused}
 use Rattle.generator.specs.Recurrence.{modulus, element}
@@ -103,25 +102,25 @@ line-short {run} v =
           digits-length (run .count) j q,
         )
 
--- the variety, by the orbit: whichever preperiod and period are the generator's, the count of different values is the same
-module _ (run : Run) {cycle : Cycle} {v : ℕ} (z : runRefusal run ≡ 0) (is : IsCycle (run .generator) cycle)
-    (e : v ≡ min (run .count) (cycle .preperiod - run .first + (cycle .last + 1))) where
-  follows : Follows (element (run .generator))
-  follows = element-follows (run .generator)
-
+-- the variety, read off the orbit in hand; the promise speaks of any orbit, and so does the law
+module _ (run : Run) where
   distinct-by : {t P : ℕ} → IsOrbit (element (run .generator)) t P →
-      distinctOf (shows run) (run .count) ≡ min (run .count) (t - run .first + P)
+      Distinct (shows run) (run .count) (min (run .count) (t - run .first + P))
   unfolding shows
-  distinct-by o = distinct-from follows o (run .first) (run .count)
+  distinct-by o = distinct-from (element-follows (run .generator)) o (run .first) (run .count)
 
-  pub variety-given : VarietyPromise run (valueOf (Value v))
-  unfolding varietyOf shows
-  variety-given =
+  pub variety-given : {cycle : Cycle} {v : ℕ} → runRefusal run ≡ 0 → IsCycle (run .generator) cycle →
+      v ≡ min (run .count) (cycle .preperiod - run .first + (cycle .last + 1)) → VarietyPromise run (valueOf (Value v))
+  unfolding varietyOf
+  variety-given {v = v} z is e =
       record {
-        equals = value-given _ z (e ∙ sym (distinct-by (is .orbit)));
-        meaning = λ q. rw e (distinct-means-from follows (is .orbit) (run .first) (run .count));
-        by-orbit = λ q t P o. e ∙ sym (distinct-by (is .orbit)) ∙ distinct-by o;
+        equals = value-given _ z (sym (distinct-is means));
+        meaning = λ q. means;
+        by-orbit = λ q t P o. distinct-only means (distinct-by o);
       }
+    where
+      means : Distinct (shows run) (run .count) v
+      means = rw e (distinct-by (is .orbit))
 
 pub variety-refused : (run : Run) (x : Refusal) → numberOf x ≡ runRefusal run → VarietyPromise run (valueOf (Refused x))
 variety-refused run x e =

@@ -9,7 +9,7 @@ use Rattle.generator.specs.Replies.{valueReply}
 use Rattle.lines.specs.declared.Run.{Run}
 use Rattle.lines.specs.Run.{shows, runRefusal}
 
--- The number of different values among its positions.
+-- The number of different values among positions 0 to count − 1.
 unfoldable pub varietyOf : Run → ℕ
 varietyOf run = distinctOf (shows run) (run .count)
 

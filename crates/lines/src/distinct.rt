@@ -13,8 +13,8 @@ pub fn preperiod_left(preperiod: u64, index: u64) -> u64
     preperiod - index
 }
 
-// Of `count` elements from index `first` on: the smaller of the count and the sum of the period and what is left of the
-// preperiod. The sum may not fit a word; it is formed only where the count is not below it.
+// How many different values `count` elements from index `first` on have: the smaller of the count and the sum of the period
+// and what is left of the preperiod. The sum need not fit a word; it is formed only where the count is not below it.
 pub fn distinct_values(cycle: Cycle, first: u64, count: u64) -> u64
     ensures { λ r. ⌜ r ≡ min count (cycle .preperiod - first + (cycle .last + 1)) ⌝ }
 {

@@ -1,46 +1,49 @@
--- How many different values the first elements have, in any sequence with any preperiod t and any period P in which equal
--- elements have equal successors. The first t + P elements differ from one another, and each later one is one of them. So
--- an index yields something new exactly if it lies below t + P, and the first n elements have the smaller of n and t + P
--- different values. From an index s on, what is left of the preperiod stands for t.
+-- How many different values the first elements of a sequence have. Where the first v elements differ from one another and each
+-- of the first n is one of them, what is new comes at the first v indices and at no other below n: so the definition counts v.
+-- In a sequence with any preperiod t and any period P, in which equal elements have equal successors, the first t + P
+-- elements differ and each later one is one of them: so v is the smaller of n and t + P. From an index s on, what is left of
+-- the preperiod stands for t.
 use mathlib.Core.Path.{_≡_, refl, sym, ap, _∙_}
 use mathlib.Core.Bool.{Bool, true, false, not}
 use mathlib.Core.Logic.{⊎-elim, by-cases}
 use Prim.Native.Nat.{ℕ, zero, suc, _+_, _-_, _≤_, _<_, min}
-use native.Mathlib.Nat.{add-suc, le-refl, le-of-lt, lt-of-lt-of-le}
+use native.Mathlib.Nat.{add-suc, le-of-lt, lt-of-lt-of-le}
 use native.Mathlib.Decide.{decLt}
 use native.Mathlib.Omega.{arith}
-use lib.Dec.{eqb}
-use borrow.Author.Tests.{eq-eqb, lt-ltb, le-ltb}
 use Rattle.words.proofs.Congruence.{same-sym, same-regroup}
-use Rattle.sequences.specs.Index.{indexOf}
 use Rattle.sequences.specs.Orbit.{IsOrbit}
-use Rattle.sequences.specs.Gap.{occurs}
 use Rattle.sequences.specs.Distinct.{howMany, isNew, distinctOf, Distinct}
-use Rattle.sequences.proofs.Least.{least-least, least-below}
-use Rattle.sequences.proofs.Indices.{none-bound}
+use Rattle.sequences.proofs.Indices.{occurs-at, occurs-nowhere}
 use Rattle.sequences.proofs.Orbits.{Follows, congruent-gap, equal-exactly, orbit-value, orbit-from}
 
--- a test that holds just below a limit
-how-many-below : {p : ℕ → Bool} {limit : ℕ} → ((i : ℕ) → i < limit → p i ≡ true) → ((i : ℕ) → limit ≤ i → p i ≡ false) →
-    (n : ℕ) → howMany p n ≡ min n limit
+-- of the numbers below n, those below a limit meet the test and the others do not
+how-many-below : {p : ℕ → Bool} {limit : ℕ} (n : ℕ) → ((i : ℕ) → i < limit → p i ≡ true) →
+    ((i : ℕ) → limit ≤ i → i < n → p i ≡ false) → howMany p n ≡ min n limit
 unfolding howMany
-how-many-below below above zero = omega arith
-how-many-below {p} {limit} below above (suc n) =
-    let e = how-many-below below above n in
-    by-cases (decLt n limit) (λ l. rw (e, below n l) (omega arith)) (λ l. rw (e, above n (omega arith)) (omega arith))
+how-many-below zero below above = omega arith
+how-many-below {p} {limit} (suc n) below above =
+    let e = how-many-below n below (λ i l b. above i l (omega arith)) in
+    by-cases (decLt n limit) (λ l. rw (e, below n l) (omega arith))
+    (λ l. rw (e, above n (omega arith) (omega arith)) (omega arith))
 
--- whether one of the first n elements is y
-occurs-at : (x : ℕ → ℕ) {y n : ℕ} (k : ℕ) → k < n → x k ≡ y → occurs x n y ≡ true
-unfolding occurs indexOf
-occurs-at x {y} {n} k l e =
-    lt-ltb _ n (omega (arith, least-below (least-least (λ i. eqb (x i) y) n) k (eq-eqb (x k) y e)))
+-- The definition counts what the meaning says, in any sequence.
+pub distinct-is : {x : ℕ → ℕ} {n v : ℕ} → Distinct x n v → distinctOf x n ≡ v
+unfolding distinctOf isNew
+distinct-is {x} {n} {v} d =
+    how-many-below n
+    (λ i l. ap not (occurs-nowhere x (x i) i (λ k b. d .different k i b l)))
+    (λ i l b. let k = d .all i b in ap not (occurs-at x (k .0) (lt-of-lt-of-le (k .1) l) (k .2)))
+    ∙ smaller
+  where
+    smaller : min n v ≡ v
+    smaller = omega (arith, d .within)
 
-occurs-nowhere : (x : ℕ → ℕ) (y n : ℕ) → ((i : ℕ) → i < n → x i ≡ y → ⊥) → occurs x n y ≡ false
-unfolding occurs
-occurs-nowhere x y n h = rw (none-bound x y n h) (le-ltb n n (le-refl n))
+-- so the meaning leaves one number only
+pub distinct-only : {x : ℕ → ℕ} {n v w : ℕ} → Distinct x n v → Distinct x n w → v ≡ w
+distinct-only a b = sym (distinct-is a) ∙ distinct-is b
 
+-- By the orbit.
 module _ {x : ℕ → ℕ} {t P : ℕ} (f : Follows x) (o : IsOrbit x t P) where
-  -- the first t + P elements
   all-different : (i j : ℕ) → i < j → j < t + P → x i ≡ x j → ⊥
   all-different i j l b e =
       ⊎-elim (λ q. omega arith)
@@ -49,21 +52,8 @@ module _ {x : ℕ → ℕ} {t P : ℕ} (f : Follows x) (o : IsOrbit x t P) where
       (arith, h .0, congruent-gap {u = i} {d = j - i} (same-regroup (same-sym (h .1)) (omega arith) (omega arith)) (omega arith)))
       (equal-exactly f o (le-of-lt l) .0 e)
 
-  new-below : (i : ℕ) → i < t + P → isNew x i ≡ true
-  unfolding isNew
-  new-below i l = ap not (occurs-nowhere x (x i) i (λ k b. all-different k i b l))
-
-  -- and those behind them
-  old-from : (i : ℕ) → t + P ≤ i → isNew x i ≡ false
-  unfolding isNew
-  old-from i l = let v = orbit-value f o i in ap not (occurs-at x (v .index) (lt-of-lt-of-le (v .below) l) (v .yields))
-
-  distinct-is : (n : ℕ) → distinctOf x n ≡ min n (t + P)
-  unfolding distinctOf
-  distinct-is n = how-many-below new-below old-from n
-
-  distinct-means : (n : ℕ) → Distinct x n (min n (t + P))
-  distinct-means n =
+  orbit-distinct : (n : ℕ) → Distinct x n (min n (t + P))
+  orbit-distinct n =
       record {
         within = omega arith;
         different = λ i j l b. all-different i j l (omega arith);
@@ -74,24 +64,10 @@ module _ {x : ℕ → ℕ} {t P : ℕ} (f : Follows x) (o : IsOrbit x t P) where
             (λ b. (v .index, omega (arith, v .below), v .yields));
       }
 
--- The meaning leaves one number only.
-pub distinct-only : {x : ℕ → ℕ} {n v w : ℕ} → Distinct x n v → Distinct x n w → v ≡ w
-distinct-only {x} {n} {v} {w} a b = omega (arith, not-below a b, not-below b a)
+-- From an index s on.
+pub distinct-from : {x : ℕ → ℕ} {t P : ℕ} → Follows x → IsOrbit x t P → (s n : ℕ) →
+    Distinct (λ i. x (s + i)) n (min n (t - s + P))
+distinct-from {x} f o s = orbit-distinct follows (orbit-from f o s)
   where
-    not-below : {v w : ℕ} → Distinct x n v → Distinct x n w → w ≤ v
-    not-below {v} {w} a b =
-        by-cases (decLt v w)
-        (λ l. let k = a .all v (lt-of-lt-of-le l (b .within)) in absurd (b .different (k .0) v (k .1) l (k .2)))
-        (λ l. omega arith)
-
--- From an index on.
-module _ {x : ℕ → ℕ} {t P : ℕ} (f : Follows x) (o : IsOrbit x t P) (s : ℕ) where
-  follows-from : Follows (λ i. x (s + i))
-  follows-from =
-      record { next = λ i j e. ap x (add-suc s i) ∙ f .next (s + i) (s + j) e ∙ ap x (sym (add-suc s j)) }
-
-  pub distinct-from : (n : ℕ) → distinctOf (λ i. x (s + i)) n ≡ min n (t - s + P)
-  distinct-from = distinct-is follows-from (orbit-from f o s)
-
-  pub distinct-means-from : (n : ℕ) → Distinct (λ i. x (s + i)) n (min n (t - s + P))
-  distinct-means-from = distinct-means follows-from (orbit-from f o s)
+    follows : Follows (λ i. x (s + i))
+    follows = record { next = λ i j e. ap x (add-suc s i) ∙ f .next (s + i) (s + j) e ∙ ap x (sym (add-suc s j)) }

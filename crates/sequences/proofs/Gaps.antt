@@ -6,7 +6,7 @@ use mathlib.Core.Path.{_≡_, refl, sym, ap, _∙_}
 use mathlib.Core.Bool.{true, false}
 use mathlib.Core.Logic.{_⊎_, inl, inr, ⊎-elim, by-cases}
 use Prim.Native.Nat.{ℕ, zero, suc, _+_, _-_, _*_, _≤_, _<_}
-use native.Mathlib.Nat.{add-zero, add-suc, le-refl, le-of-lt}
+use native.Mathlib.Nat.{add-zero, add-suc, le-of-lt}
 use native.Mathlib.Decide.{decLe, decLt}
 use native.Mathlib.Omega.{arith}
 use lib.Dec.{T, ltb, leb, ltb→lt, lt→ltb, leb→le, le→leb}
@@ -27,7 +27,7 @@ use Rattle.sequences.specs.Index.{Located, Absent}
 use Rattle.sequences.specs.Orbit.{IsOrbit}
 use Rattle.sequences.specs.Gap.{occurs, aheadOf, signedOf, stepsOf, stepped, Leads, InRange, Between, Ahead}
 use Rattle.sequences.proofs.Least.{least-unique}
-use Rattle.sequences.proofs.Indices.{located-is, absent-is}
+use Rattle.sequences.proofs.Indices.{located-is, occurs-at, occurs-nowhere}
 use Rattle.sequences.proofs.Orbits.{Follows, congruent-gap, congruent-equal, equal-congruent}
 
 -- x goes on by single steps
@@ -129,12 +129,10 @@ signed-turns {P} {i} {j} {d} a =
 
 -- whether a number occurs
 pub located-occurs : {x : ℕ → ℕ} {y P k : ℕ} → Located x y P k → occurs x P y ≡ true
-unfolding occurs
-located-occurs {P = P} {k = k} h = rw (located-is h) (lt-ltb k P (h .below))
+located-occurs {x} {k = k} h = occurs-at x k (h .below) (h .yields)
 
 pub absent-missing : {x : ℕ → ℕ} {y : ℕ} (P : ℕ) → Absent x y → occurs x P y ≡ false
-unfolding occurs
-absent-missing P h = rw (absent-is h P) (le-ltb P P (le-refl P))
+absent-missing {x} {y} P h = occurs-nowhere x y P (λ i l. h .none i)
 
 module _ {next x : ℕ → ℕ} {P : ℕ} (s : Steps next x) (o : IsOrbit x 0 P) where
   equal-turned : {i j : ℕ} → Congruent P i j → x i ≡ x j

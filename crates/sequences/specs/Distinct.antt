@@ -17,8 +17,8 @@ isNew x i = not (occurs x i (x i))
 unfoldable pub distinctOf : (ℕ → ℕ) → ℕ → ℕ
 distinctOf x n = howMany (isNew x) n
 
--- What it means in a sequence in which equal elements have equal successors, where nothing new comes once a value has come
--- again: the first v elements differ from one another, and each of the first n is one of them.
+-- What it means: the first v elements differ from one another, and each of the first n is one of them. There is such a v in
+-- every sequence in which equal elements have equal successors: nothing new comes there once a value has come again.
 pub record Distinct (x : ℕ → ℕ) (n v : ℕ) : Type 0 where
   pub within : v ≤ n
   pub different : (i j : ℕ) → i < j → j < v → x i ≡ x j → ⊥

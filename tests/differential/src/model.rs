@@ -453,8 +453,8 @@ mod tests {
         }
     }
 
-    /// The last position that is counted shows what none before it does, and those behind it what an
-    /// earlier one does.
+    /// The last position that is counted shows what none before it does, and those tried behind it what a
+    /// counted one does.
     #[test]
     fn variety_agrees_with_its_definition() {
         let mut r = Random::new(5);

@@ -1,6 +1,6 @@
-//! Compares every call of the proved library with the model: on all generators of widths 1 to 5, on
-//! all their low bits, on all their short runs for the variety and all pairs of numbers for the gap,
-//! and on random calls, accepted and refused.
+//! Compares every call of the proved library with the model: on all generators of widths 1 to 5 and all
+//! their low bits, at widths 1 to 4 on all short runs for the variety and all pairs of numbers for the
+//! gap, and on random calls, accepted and refused.
 //! Ends with status 1 at the first difference.
 //!
 //!     cargo run --release --bin differential
@@ -398,7 +398,8 @@ fn all_short_runs(share: u64) -> Tally {
 }
 
 /// Even multipliers, and those of chosen periods: runs that start about the preperiod and whose count
-/// is near what is new to them, as far as there are indices.
+/// is near how many numbers they have; refused where it goes too far, and then cut to the indices there
+/// are.
 fn chosen_varieties() -> Tally {
     let mut tally = Tally::default();
     let odd = PERIODS.iter().map(|(_, numbers)| *numbers);

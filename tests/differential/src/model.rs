@@ -418,19 +418,25 @@ mod tests {
         }
     }
 
+    /// Every generator of widths 1 to 4.
+    fn narrow_generators() -> impl Iterator<Item = Generator> {
+        (1..=4).flat_map(|width| {
+            let size = 1 << width;
+            (0..size * size * size).map(move |k| {
+                let (multiplier, increment, seed) = (k / size / size, k / size % size, k % size);
+                Generator { width, multiplier, increment, seed }
+            })
+        })
+    }
+
     #[test]
     fn index_places_agrees_with_the_lists() {
-        for width in 1..=4 {
-            let size = 1 << width;
-            for k in 0..size * size * size {
-                let (multiplier, increment, seed) = (k / size / size, k / size % size, k % size);
-                let g = Generator { width, multiplier, increment, seed };
-                for places in 1..=width {
-                    let lists = index_places_by_lists(g, places);
-                    for number in 0..=1 << places {
-                        let wanted = lists.get(number as usize).copied().unwrap_or_default();
-                        assert_eq!(index_places(g, places, number), wanted, "{places}, {number} in {g:?}");
-                    }
+        for g in narrow_generators() {
+            for places in 1..=g.width {
+                let lists = index_places_by_lists(g, places);
+                for number in 0..=1 << places {
+                    let wanted = lists.get(number as usize).copied().unwrap_or_default();
+                    assert_eq!(index_places(g, places, number), wanted, "{places}, {number} in {g:?}");
                 }
             }
         }
@@ -438,16 +444,11 @@ mod tests {
 
     #[test]
     fn variety_agrees_with_the_counting() {
-        for width in 1..=4 {
-            let size = 1 << width;
-            for k in 0..size * size * size {
-                let (multiplier, increment, seed) = (k / size / size, k / size % size, k % size);
-                let generator = Generator { width, multiplier, increment, seed };
-                for first in 0..6 {
-                    for (count, wanted) in (0..).zip(varieties_by_counting(generator, first, 20)) {
-                        let run = Run { generator, first, count };
-                        assert_eq!(variety(run), wanted, "{run:?}");
-                    }
+        for generator in narrow_generators() {
+            for first in 0..6 {
+                for (count, wanted) in (0..).zip(varieties_by_counting(generator, first, 20)) {
+                    let run = Run { generator, first, count };
+                    assert_eq!(variety(run), wanted, "{run:?}");
                 }
             }
         }

@@ -8,7 +8,7 @@ use Rattle.generator.specs.Recurrence.{modulus, step, element}
 use Rattle.generator.specs.Refusals.{refusalOf}
 use Rattle.sequences.specs.Index.{indexOf}
 use Rattle.sequences.specs.Gap.{occurs}
-use Rattle.sequences.specs.Distinct.{howMany, isNew, distinctOf}
+use Rattle.sequences.specs.Distinct.{countOf, isNew, distinctOf}
 use Rattle.fields.specs.Digits.{lastDigits, digitsOf}
 use Rattle.fields.specs.Line.{fieldsLine}
 use Rattle.lines.specs.declared.Run.{Run}
@@ -62,7 +62,7 @@ shown = refl
 
 -- 1, 8, 11, .. with period 16; 22, 2, 6, 18, 22, .. with period 4
 varieties : map varietyOf (run 4 5 3 1 0 10 ∷ run 4 5 3 1 0 20 ∷ run 5 3 0 2 7 9 ∷ []) ≡ 10 ∷ 16 ∷ 4 ∷ []
-unfolding varietyOf distinctOf howMany isNew occurs indexOf least shows element step modulus
+unfolding varietyOf distinctOf countOf isNew occurs indexOf least shows element step modulus
 varieties = refl
 
 -- 1, 2, 4, 8, 0, 0, .. from index 0, 3 and 4 on; 1, 7, 11, 3, 3, .. from index 0 and 2 on; a count of 1
@@ -77,5 +77,5 @@ early-varieties :
     ∷ run 4 6 1 1 0 1
     ∷ [])
     ≡ 5 ∷ 2 ∷ 1 ∷ 3 ∷ 4 ∷ 2 ∷ 1 ∷ []
-unfolding varietyOf distinctOf howMany isNew occurs indexOf least shows element step modulus
+unfolding varietyOf distinctOf countOf isNew occurs indexOf least shows element step modulus
 early-varieties = refl

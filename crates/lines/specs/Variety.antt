@@ -15,7 +15,7 @@ varietyOf run = distinctOf (shows run) (run .count)
 
 -- The promise of the call: the reply is the definition's; an accepted one, v, means that the first v positions show
 -- different numbers and every position one of these; and whatever the orbit is, v is the smaller of the count and the sum of
--- the period and what is left of the preperiod at the run's first index.
+-- the period and what is left of the preperiod at the run's first index (`-` is cut at 0).
 pub record VarietyPromise (run : Run) (reply : ValueReply) : Type 0 where
   pub equals : reply ≡ valueReply (runRefusal run) (varietyOf run)
   pub meaning : reply .refusal ≡ 0 → Distinct (shows run) (run .count) (reply .value)

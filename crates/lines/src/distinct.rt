@@ -4,7 +4,7 @@ ghost use Prim.Native.Nat.{_+_, _-_, min};
 use orbits::kinds::Cycle;
 
 // What is left of a preperiod at an index.
-pub fn preperiod_left(preperiod: u64, index: u64) -> u64
+fn preperiod_left(preperiod: u64, index: u64) -> u64
     ensures { λ r. ⌜ r ≡ preperiod - index ⌝ }
 {
     if preperiod < index {
@@ -22,8 +22,8 @@ pub fn distinct_values(cycle: Cycle, first: u64, count: u64) -> u64
     if left < count {
         let last = cycle.last;
         if last < count - left {
-            let all = left + last + 1;
-            return all;
+            let sum = left + last + 1;
+            return sum;
         }
     }
     count

@@ -1,4 +1,4 @@
--- `Orbits` and `WorkedRuns` are for the crates above too.
+-- The crates above cite none of these: `specs/` has what they need of an orbit.
 pub mod Elements
 pub mod Searches
 pub mod Orbits

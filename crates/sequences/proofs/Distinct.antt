@@ -12,17 +12,17 @@ use native.Mathlib.Decide.{decLt}
 use native.Mathlib.Omega.{arith}
 use Rattle.words.proofs.Congruence.{same-sym, same-regroup}
 use Rattle.sequences.specs.Orbit.{IsOrbit}
-use Rattle.sequences.specs.Distinct.{howMany, isNew, distinctOf, Distinct}
+use Rattle.sequences.specs.Distinct.{countOf, isNew, distinctOf, Distinct}
 use Rattle.sequences.proofs.Indices.{occurs-at, occurs-nowhere}
 use Rattle.sequences.proofs.Orbits.{Follows, congruent-gap, equal-exactly, orbit-value, orbit-from}
 
--- of the numbers below n, those below a limit meet the test and the others do not
-how-many-below : {p : ℕ → Bool} {limit : ℕ} (n : ℕ) → ((i : ℕ) → i < limit → p i ≡ true) →
-    ((i : ℕ) → limit ≤ i → i < n → p i ≡ false) → howMany p n ≡ min n limit
-unfolding howMany
-how-many-below zero below above = omega arith
-how-many-below {p} {limit} (suc n) below above =
-    let e = how-many-below n below (λ i l b. above i l (omega arith)) in
+-- a test that, of the numbers below n, holds at those below a limit and at no other
+count-below : {p : ℕ → Bool} {limit : ℕ} (n : ℕ) → ((i : ℕ) → i < limit → p i ≡ true) →
+    ((i : ℕ) → limit ≤ i → i < n → p i ≡ false) → countOf p n ≡ min n limit
+unfolding countOf
+count-below zero below above = omega arith
+count-below {p} {limit} (suc n) below above =
+    let e = count-below n below (λ i l b. above i l (omega arith)) in
     by-cases (decLt n limit) (λ l. rw (e, below n l) (omega arith))
     (λ l. rw (e, above n (omega arith) (omega arith)) (omega arith))
 
@@ -30,7 +30,7 @@ how-many-below {p} {limit} (suc n) below above =
 pub distinct-is : {x : ℕ → ℕ} {n v : ℕ} → Distinct x n v → distinctOf x n ≡ v
 unfolding distinctOf isNew
 distinct-is {x} {n} {v} d =
-    how-many-below n
+    count-below n
     (λ i l. ap not (occurs-nowhere x (x i) i (λ k b. d .different k i b l)))
     (λ i l b. let k = d .all i b in ap not (occurs-at x (k .0) (lt-of-lt-of-le (k .1) l) (k .2)))
     ∙ smaller
@@ -42,7 +42,7 @@ distinct-is {x} {n} {v} d =
 pub distinct-only : {x : ℕ → ℕ} {n v w : ℕ} → Distinct x n v → Distinct x n w → v ≡ w
 distinct-only a b = sym (distinct-is a) ∙ distinct-is b
 
--- By the orbit.
+-- By the orbit: the first t + P elements differ.
 module _ {x : ℕ → ℕ} {t P : ℕ} (f : Follows x) (o : IsOrbit x t P) where
   all-different : (i j : ℕ) → i < j → j < t + P → x i ≡ x j → ⊥
   all-different i j l b e =

@@ -4,10 +4,10 @@ use mathlib.Core.Bool.{Bool, cond, not}
 use Prim.Native.Nat.{ℕ, zero, suc, _+_, _≤_, _<_}
 use Rattle.sequences.specs.Gap.{occurs}
 
--- How many numbers below n meet the test.
-unfoldable pub howMany : (ℕ → Bool) → ℕ → ℕ
-howMany p zero = zero
-howMany p (suc n) = howMany p n + cond (p n) 1 0
+-- The count of the numbers below n at which the test holds.
+unfoldable pub countOf : (ℕ → Bool) → ℕ → ℕ
+countOf p zero = zero
+countOf p (suc n) = countOf p n + cond (p n) 1 0
 
 -- Whether index i yields what no earlier index yields.
 unfoldable pub isNew : (ℕ → ℕ) → ℕ → Bool
@@ -15,7 +15,7 @@ isNew x i = not (occurs x i (x i))
 
 -- The number of different values among the first n elements: each is counted at the first index that yields it.
 unfoldable pub distinctOf : (ℕ → ℕ) → ℕ → ℕ
-distinctOf x n = howMany (isNew x) n
+distinctOf x n = countOf (isNew x) n
 
 -- What it means: the first v elements differ from one another, and each of the first n is one of them. There is such a v in
 -- every sequence in which equal elements have equal successors: nothing new comes there once a value has come again.

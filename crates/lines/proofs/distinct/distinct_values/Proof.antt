@@ -1,4 +1,4 @@
--- `lines::distinct::distinct_values` meets its contract.
+-- `lines::distinct::distinct_values` meets its contract: the sum is formed only where it is at most the count, so it fits.
 use borrow.Author.Needs.{needs}
 use native.Mathlib.Omega.{arith}
 use Rattle.lines.proofs.distinct.distinct_values.Statement.{statement}
@@ -10,11 +10,11 @@ preperiod-left-requires c κs = search needs
 sub-if2 : tie.Need-sub-if2
 sub-if2 c = omega arith
 
-add-all : tie.Need-add-all
-add-all c = omega arith
+add-sum : tie.Need-add-sum
+add-sum c = omega arith
 
-add-all-2 : tie.Need-add-all-2
-add-all-2 c = omega arith
+add-sum-2 : tie.Need-add-sum-2
+add-sum-2 c = omega arith
 
 returns : tie.Need-returns
 returns c = omega arith
@@ -27,4 +27,4 @@ returns-3 c = omega arith
 
 pub distinct-values-spec : {M : Type 1} → statement M
 distinct-values-spec =
-    tie.close (tie.spec preperiod-left-requires sub-if2 add-all add-all-2 returns returns-2 returns-3)
+    tie.close (tie.spec preperiod-left-requires sub-if2 add-sum add-sum-2 returns returns-2 returns-3)

@@ -2,6 +2,8 @@
  *
  * A generator has a width n (1 to 64), a multiplier, an increment and a seed, each below 2^n.
  * Element 0 is the seed; element i + 1 is multiplier * (element i) + increment modulo 2^n.
+ * Width 0 is the generator of APL\360, whose modulus is the prime 2147483647 in place of 2^n: its
+ * multiplier is 16807, its increment 0 and its seed 1 to 2147483646.
  * A run is a generator with a first index and a count; position p, below the count, shows
  * element first + p. A line is the six numbers of a run in the order of np_run, in decimal,
  * separated by commas and ended by byte 10. An archive is zero or more lines, numbered from 1.
@@ -24,7 +26,7 @@
 extern "C" {
 #endif
 
-#define NP_VERSION "0.8.0"
+#define NP_VERSION "0.9.0"
 
 #define NP_LINE_MAX 107       /* no line of a run is longer, its byte 10 included */
 #define NP_ARCHIVE_MAX 65536  /* no accepted archive is longer */
@@ -35,20 +37,24 @@ enum {
     NP_REFUSED_MALFORMED_LINE = 2,        /* bytes that are not a valid line: a field that is no
                                              number below 2^64 or has a leading zero, more or fewer
                                              than six fields, any other byte, byte 10 missing */
-    NP_REFUSED_WIDTH_OUT_OF_RANGE = 3,    /* width 0 or above 64; for the customary multiplier also 1 and 2 */
-    NP_REFUSED_OPERAND_OUT_OF_RANGE = 4,  /* multiplier, increment or seed is 2^width or more */
+    NP_REFUSED_WIDTH_OUT_OF_RANGE = 3,    /* width above 64; for the customary multiplier also below 3 */
+    NP_REFUSED_OPERAND_OUT_OF_RANGE = 4,  /* multiplier, increment or seed is 2^width or more; at width 0 the
+                                             multiplier is not 16807, the increment not 0, or the seed not
+                                             1 to 2147483646 */
     NP_REFUSED_RUN_OUT_OF_RANGE = 5,      /* count 0, or first + count above 2^64 - 1 */
-    NP_REFUSED_VALUE_OUT_OF_RANGE = 6,    /* predecessor of a value of 2^width or more */
+    NP_REFUSED_VALUE_OUT_OF_RANGE = 6,    /* predecessor of a value of 2^width or more, at width 0 of one that
+                                             is not 1 to 2147483646 */
     NP_REFUSED_NOT_INVERTIBLE = 7,        /* predecessor or gap with an even multiplier */
     NP_REFUSED_BUFFER_TOO_SHORT = 8,      /* the buffer is shorter than the line */
-    NP_REFUSED_PLACES_OUT_OF_RANGE = 9    /* 0 places, or more than the width has */
+    NP_REFUSED_PLACES_OUT_OF_RANGE = 9    /* 0 places, or more than the width has: at width 0 always */
 };
 
 typedef struct { uint64_t width, multiplier, increment, seed; } np_generator;
 typedef struct { np_generator generator; uint64_t first, count; } np_run;
 
 typedef struct { uint64_t refusal, value; } np_value;
-typedef struct { uint64_t refusal, preperiod, exponent; } np_orbit_reply;
+/* period 0: it is 2^exponent; else it is the period itself, and exponent is 0 */
+typedef struct { uint64_t refusal, preperiod, exponent, period; } np_orbit_reply;
 typedef struct { uint64_t refusal, found, index; } np_index_reply;            /* found 0: never */
 /* found 0: never; recurs 0: at index only; 1: there and every 2^exponent further */
 typedef struct { uint64_t refusal, found, index, recurs, exponent; } np_places_reply;
@@ -61,18 +67,20 @@ typedef struct { uint64_t start, length; } np_part;                           /*
 np_value        np_element(np_generator g, uint64_t index);
 
 /* The preperiod, the least index whose element occurs again at a later index, and the period,
- * after how many indices it first does: a power of two, given as its exponent, 0 to 64.
+ * after how many indices it first does: at widths 1 to 64 a power of two, given as its exponent,
+ * 0 to 64, with 0 in the field period; at width 0 the number 2147483646, in the field period.
  * Refusals 3, 4. */
 np_orbit_reply  np_orbit(np_generator g);
 
-/* The least index that yields the value (found 1), or never (found 0). Refusals 3, 4. */
+/* The least index that yields the value (found 1), or never (found 0). At width 0 the values 1 to
+ * 2147483646 all have one, and no others. Refusals 3, 4. */
 np_index_reply  np_index(np_generator g, uint64_t value);
 
 /* The least index at which the element's lowest `places` bits (the element modulo 2^places) are the
  * value (found 1), or never (found 0); a value of 2^places or more is never. With recurs 0 no other
  * index has them, and exponent is 0; with recurs 1 exactly the indices index + t * 2^exponent, t from
  * 0 on, have them, and exponent is 0 to 64. With places = width, found and index are those of
- * np_index. Refusals 3, 4, 9. */
+ * np_index. Refusals 3, 4, 9, the last for every number of places at width 0. */
 np_places_reply np_index_places(np_generator g, uint64_t places, uint64_t value);
 
 /* The steps from one number of the sequence to another (found 1), or never (found 0) if either of
@@ -81,7 +89,8 @@ np_places_reply np_index_places(np_generator g, uint64_t places, uint64_t value)
  * the period is -P/2. Refusals 3, 4, 7, the last for every even multiplier, whatever the numbers. */
 np_gap_reply    np_gap(np_generator g, uint64_t from, uint64_t to);
 
-/* The only number below 2^width that one step takes to the value. Refusals 3, 4, 6, 7. */
+/* The only number below 2^width, at width 0 from 1 to 2147483646, that one step takes to the value.
+ * Refusals 3, 4, 6, 7. */
 np_value        np_predecessor(np_generator g, uint64_t value);
 
 /* The largest odd power of 5 below 2^width, for widths from 3 to 64. Refusal 3. */
@@ -120,10 +129,12 @@ static inline const char *np_refusal_text(uint64_t refusal)
     case 0: return "not refused";
     case NP_REFUSED_ARCHIVE_TOO_LONG: return "the archive has more than 65,536 bytes";
     case NP_REFUSED_MALFORMED_LINE: return "bytes that are not a valid line";
-    case NP_REFUSED_WIDTH_OUT_OF_RANGE: return "the width is out of range";
-    case NP_REFUSED_OPERAND_OUT_OF_RANGE: return "the multiplier, the increment or the seed is 2^width or more";
+    case NP_REFUSED_WIDTH_OUT_OF_RANGE: return "the width is above 64, or below 3 for a customary multiplier";
+    case NP_REFUSED_OPERAND_OUT_OF_RANGE:
+        return "the multiplier, the increment or the seed is 2^width or more, "
+               "or at width 0 other than 16807, 0 and 1 to 2147483646";
     case NP_REFUSED_RUN_OUT_OF_RANGE: return "the count is 0, or first + count is above 2^64 - 1";
-    case NP_REFUSED_VALUE_OUT_OF_RANGE: return "the value is 2^width or more";
+    case NP_REFUSED_VALUE_OUT_OF_RANGE: return "the value is 2^width or more, or at width 0 not 1 to 2147483646";
     case NP_REFUSED_NOT_INVERTIBLE: return "the multiplier is even: a predecessor or a gap needs an odd one";
     case NP_REFUSED_BUFFER_TOO_SHORT: return "the buffer is shorter than the line";
     case NP_REFUSED_PLACES_OUT_OF_RANGE: return "the number of places is 0 or above the width";

@@ -153,18 +153,25 @@ spreadsheets() {
 }
 
 out_of_range() {
-    refused 'width 0' 3 '0,0,0,0,0,16\n'
     refused 'width 65' 3 '65,5,3,1,0,16\n'
     refused 'width 2^64 - 1' 3 '18446744073709551615,5,3,1,0,16\n'
     refused 'multiplier 2^4 at width 4' 4 '4,16,3,1,0,16\n'
     refused 'increment 2^4 at width 4' 4 '4,5,16,1,0,16\n'
     refused 'seed 2^4 at width 4' 4 '4,5,3,16,0,16\n'
     refused 'seed 2^63 at width 63' 4 '63,5,3,9223372036854775808,0,16\n'
+    refused 'all operands 0 at width 0' 4 '0,0,0,0,0,16\n'
+    refused 'seed 0 at width 0' 4 '0,16807,0,0,0,16\n'
+    refused 'seed 2^31 - 1 at width 0' 4 '0,16807,0,2147483647,0,16\n'
+    refused 'increment 1 at width 0' 4 '0,16807,1,1,0,16\n'
+    refused 'multiplier 16806 at width 0' 4 '0,16806,0,1,0,16\n'
+    refused 'multiplier 16808 at width 0' 4 '0,16808,0,1,0,16\n'
     refused 'count 0' 5 '4,5,3,1,0,0\n'
     refused 'first 2^64 - 2, count 2' 5 '4,5,3,1,18446744073709551614,2\n'
     refused 'first 2^64 - 1, count 1' 5 '4,5,3,1,18446744073709551615,1\n'
     refused 'first 2^64 - 1, count 0' 5 '4,5,3,1,18446744073709551615,0\n'
     refused 'first 1, count 2^64 - 1' 5 '4,5,3,1,1,18446744073709551615\n'
+    refused 'count 0 at width 0' 5 '0,16807,0,1,0,0\n'
+    refused 'first 2^64 - 1, count 1 at width 0' 5 '0,16807,0,1,18446744073709551615,1\n'
 }
 
 # accepted NAME LINE POSITION: an archive of this line; the number at the position is looked for.
@@ -181,16 +188,24 @@ in_range() {
     accepted 'first 2^64 - 2, count 1' 4,5,3,1,18446744073709551614,1 0
     accepted 'first 0, count 2^64 - 1' 4,5,3,1,0,18446744073709551615 15
     accepted 'even multiplier, width 64' 64,18446744073709551614,1,12345678901234567890,3,100 20
+    accepted 'width 0, seed 1' 0,16807,0,1,0,16 15
+    accepted 'width 0, seed 2^31 - 2' 0,16807,0,2147483646,1099511627776,1000 777
+    accepted 'width 0, first 2^64 - 2, count 1' 0,16807,0,1043618065,18446744073709551614,1 0
+    accepted 'width 0, first 0, count 2^64 - 1' 0,16807,0,1043618065,0,18446744073709551615 2147483645
 }
 
 # In a line the lowest number counts, among lines the first.
 order() {
     refused 'line malformed, width 65, count 00' 2 '65,5,3,1,0,00\n'
     refused 'width 65, count 0' 3 '65,5,3,1,0,0\n'
-    refused 'width 0, operands above it' 3 '0,5,3,1,0,16\n'
     refused 'seed 2^4 at width 4, count 0' 4 '4,5,3,16,0,0\n'
+    refused 'width 65, seed 0, count 0' 3 '65,16807,0,0,0,0\n'
+    refused 'seed 0 at width 0, count 0' 4 '0,16807,0,0,0,0\n'
+    refused 'seed 0 at width 0, count 00' 2 '0,16807,0,0,0,00\n'
     refused 'line 2 is 5, line 3 is 2' 5 '4,5,3,1,0,0\n4,5\n'
-    refused 'line 2 is 4, line 3 is 3' 4 '4,5,3,16,0,1\n0,5,3,1,0,1\n'
+    refused 'line 2 is 4, line 3 is 3' 4 '4,5,3,16,0,1\n65,5,3,1,0,1\n'
+    refused 'line 2 is 4 at width 0, line 3 is 3' 4 '0,5,3,1,0,1\n65,5,3,1,0,1\n'
+    refused 'line 2 is 3, line 3 is 4 at width 0' 3 '65,5,3,1,0,1\n0,5,3,1,0,1\n'
     refused 'line 2 is 3, line 4 is 2' 3 '70,5,3,1,0,1\n4,5,3,1,0,16\n4,5\n'
     archive '4,5\n4,5,3,1,0,16\n'
     answers 'bad line 1 of 2' '5\n' refused,2,1
@@ -232,6 +247,53 @@ even_multipliers() {
     answers 'even multiplier, a run within the cycle' '11\n' none
 }
 
+# 0,16807,0,1,0,5 shows 1, 16807, 282475249, 1622650073 and 984943658.
+prime_modulus() {
+    archive '0,16807,0,1,0,5\n'
+    answers 'width 0, the seed' '1\n' 1,0
+    answers 'width 0, the next element' '16807\n' 1,1
+    answers 'width 0, the last position' '984943658\n' 1,4
+    answers 'width 0, behind the end of the run' '1144108930\n' none
+    answers 'width 0, zero' '0\n' none
+    answers 'width 0, 2^31 - 1' '2147483647\n' none
+    answers 'width 0, the seed and 2^31 - 1' '2147483648\n' none
+    answers 'width 0, 2^64 - 1' '18446744073709551615\n' none
+    archive '0,16807,0,1,2,2147483645\n'
+    answers 'width 0, a whole period but one' '16807\n' none
+    answers 'width 0, the seed comes round again' '1\n' 1,2147483644
+    answers 'width 0, half the period on' '2147483646\n' 1,1073741821
+    archive '0,16807,0,1,2,2147483646\n'
+    answers 'width 0, a whole period' '16807\n' 1,2147483645
+    archive '0,16807,0,1,2147483646,5\n'
+    answers 'width 0, a run from the period on' '16807\n' 1,1
+}
+
+# Lines of width 0 beside others: 40,1,1,16800,0,16 shows 16800 to 16815, and 4,5,3,1,0,16 all numbers below 16.
+mixed_archives() {
+    archive '40,1,1,16800,0,16\n0,16807,0,1,0,5\n'
+    answers 'both show it, width 40 first' '16807\n' 1,7
+    answers 'width 0 alone shows it, line 2' '282475249\n' 2,2
+    answers 'neither shows it' '16816\n' none
+    archive '0,16807,0,1,0,5\n40,1,1,16800,0,16\n'
+    answers 'both show it, width 0 first' '16807\n' 1,1
+    answers 'width 40 alone shows it, line 2' '16808\n' 2,8
+    archive '4,5,3,1,0,16\n0,16807,0,1,1,4\n0,16807,0,1,0,5\n'
+    answers 'the seed of line 2 is before its run, line 1 shows it' '1\n' 1,0
+    answers 'zero, of width 4 only' '0\n' 1,9
+    archive '0,16807,0,1,1,4\n4,5,3,1,0,16\n0,16807,0,1,0,5\n'
+    answers 'the seed of line 1 is before its run, line 2 shows it' '1\n' 2,0
+    archive '0,16807,0,1,1,4\n0,16807,0,1,0,5\n4,5,3,1,0,16\n'
+    answers 'the seed of line 1 is before its run, line 2 of width 0 shows it' '1\n' 2,0
+    archive '0,16807,0,1,0,18446744073709551615\n64,1,1,0,0,18446744073709551615\n'
+    agrees 'every number but zero, line 1' 5
+    answers 'zero, line 2' '0\n' 2,0
+    answers '2^31 - 1, line 2' '2147483647\n' 2,2147483647
+    archive '0,16807,0,1,0,5\n0,16807,0,0,0,5\n4,5,3,1,0,16\n'
+    answers 'seed 0 in line 2, line 1 shows it' '1\n' refused,4,2
+    archive '4,5,3,1,0,16\n0,16807,0,1,0,5\n65,5,3,1,0,16\n'
+    answers 'width 65 in line 3, line 1 shows it' '1\n' refused,3,3
+}
+
 in_pieces() {
     archive "$example"
     pieces 4 9 '\n' | prints 'question in pieces' 2,0
@@ -258,6 +320,8 @@ in_range
 order
 searches
 even_multipliers
+prime_modulus
+mixed_archives
 in_pieces
 unwritten 'an answer' '5\n'
 done_with runfind

@@ -85,6 +85,8 @@ refusals() {
     answers 'width 65' '1,0,1\n' refused,3,1
     archive '4,5,3,16,0,16\n'
     answers 'seed 2^4 at width 4' '1,0,1\n' refused,4,1
+    archive '0,16807,0,0,0,16\n'
+    answers 'seed 0 at width 0' '1,0,1\n' refused,4,1
     archive '4,5,3,1,0,0\n'
     answers 'count 0' '1,0,1\n' refused,5,1
     fresh
@@ -109,6 +111,23 @@ wide() {
     agrees 'first 2^64 - 2, count 1' 4,5,3,1,18446744073709551614,1 0 9 1
     agrees 'first 0, count 2^64 - 1, its end' 16,5,3,1,0,18446744073709551615 18446744073709551600 100 15
     agrees 'first 1, count 2^64 - 2, its last position' 64,5,3,1,1,18446744073709551614 18446744073709551613 18446744073709551615 1
+}
+
+prime_modulus() {
+    archive '4,5,3,1,0,16\n0,16807,0,1,0,5\n10,371,995,73,100,8\n'
+    answers 'width 0' '2,0,8\n' "$(lines 1 16807 282475249 1622650073 984943658)"
+    answers 'width 0, from the middle' '2,2,2\n' "$(lines 282475249 1622650073)"
+    answers 'width 0, the position behind the last' '2,5,1\n' none
+    answers 'the line before one of width 0' '1,3,3\n' "$(lines 10 5 12)"
+    answers 'the line behind one of width 0' '3,6,8\n' "$(lines 541 1002)"
+    archive '0,16807,0,1,2147483645,4\n'
+    answers 'width 0, across the end of its period' '1,0,9\n' "$(lines 1407677000 1 16807 282475249)"
+    agrees 'width 0, more than two chunks' 0,16807,0,1043618065,5,1000000 100 3000
+    agrees 'width 0, the largest seed' 0,16807,0,2147483646,0,100 0 100
+    agrees 'width 0, first 2^64 - 2, count 1' 0,16807,0,1,18446744073709551614,1 0 9 1
+    agrees 'width 0, first 0, count 2^64 - 1, its end' 0,16807,0,1,0,18446744073709551615 18446744073709551600 100 15
+    archive '0,16807,0,1,0,5\n0,16807,1,1,0,5\n'
+    answers 'increment 1 at width 0, behind the line asked for' '1,0,1\n' refused,4,2
 }
 
 # cut_off NAME QUESTION COUNT WANTED: of a run without an end in sight only so many numbers are read, and the program ends.
@@ -161,6 +180,7 @@ question_first
 unread '2,0,8\n'
 refusals
 wide
+prime_modulus
 without_end
 whole_periods
 unwritten 'numbers' '2,0,8\n'

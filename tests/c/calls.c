@@ -117,7 +117,7 @@ static void remake(np_run r, uint64_t position, uint64_t lent)
 
 static void print_orbit(np_orbit_reply r)
 {
-    print(3, r.refusal, r.preperiod, r.exponent);
+    print(4, r.refusal, r.preperiod, r.exponent, r.period);
 }
 
 static void print_index(np_index_reply r)

@@ -13,6 +13,7 @@ def struct(*names, **more):
 
 Generator = struct("width", "multiplier", "increment", "seed")
 Value = struct("refusal", "value")
+OrbitReply = struct("refusal", "preperiod", "exponent", "period")
 PlacesReply = struct("refusal", "found", "index", "recurs", "exponent")
 GapReply = struct("refusal", "found", steps=c_int64)
 LookupReply = struct("refusal", "line", "found", "position")
@@ -20,6 +21,8 @@ LookupReply = struct("refusal", "line", "found", "position")
 library = ctypes.CDLL(sys.argv[1])
 library.np_element.argtypes = Generator, c_uint64
 library.np_element.restype = Value
+library.np_orbit.argtypes = (Generator,)
+library.np_orbit.restype = OrbitReply
 library.np_index_places.argtypes = Generator, c_uint64, c_uint64
 library.np_index_places.restype = PlacesReply
 library.np_gap.argtypes = Generator, c_uint64, c_uint64
@@ -28,6 +31,9 @@ library.np_lookup.argtypes = ctypes.c_char_p, c_size_t, c_uint64
 library.np_lookup.restype = LookupReply
 
 element = library.np_element(Generator(10, 371, 995, 73), 1000)
+prime_element = library.np_element(Generator(0, 16807, 0, 1), 2)
+orbit = library.np_orbit(Generator(10, 371, 995, 73))
+prime_orbit = library.np_orbit(Generator(0, 16807, 0, 1))
 places = library.np_index_places(Generator(10, 371, 995, 73), 9, 985 % 512)
 gap = library.np_gap(Generator(10, 371, 995, 73), 49, 985)
 archive = b"4,5,3,1,0,16\n10,371,995,73,100,8\n"
@@ -35,8 +41,11 @@ found = library.np_lookup(archive, len(archive), 49)
 nothing = library.np_lookup(None, 0, 49)
 
 assert (element.refusal, element.value) == (0, 985)
+assert (prime_element.refusal, prime_element.value) == (0, 282475249)
+assert (orbit.refusal, orbit.preperiod, orbit.exponent, orbit.period) == (0, 0, 9, 0)
+assert (prime_orbit.refusal, prime_orbit.preperiod, prime_orbit.exponent, prime_orbit.period) == (0, 0, 0, 2147483646)
 assert (places.refusal, places.found, places.index, places.recurs, places.exponent) == (0, 1, 232, 1, 8)
 assert (gap.refusal, gap.found, gap.steps) == (0, 1, -124)
 assert (found.refusal, found.line, found.found, found.position) == (0, 2, 1, 0)
 assert (nothing.refusal, nothing.line, nothing.found, nothing.position) == (0, 0, 0, 0)
-print("shared library: 5 calls from Python")
+print("shared library: 8 calls from Python")

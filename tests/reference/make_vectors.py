@@ -5,7 +5,7 @@
 The file stdin has one call a line, as decimal numbers separated by commas behind the call's letter:
 
     E  element               width, multiplier, increment, seed, index           refusal, value
-    O  orbit                 width, multiplier, increment, seed                  refusal, preperiod, exponent
+    O  orbit                 width, multiplier, increment, seed                  refusal, preperiod, exponent, period
     I  index                 width, multiplier, increment, seed, number          refusal, found, index
     B  index by low bits     width, multiplier, increment, seed, places, number  refusal, found, index, recurs, exponent
     G  gap                   width, multiplier, increment, seed, from, to        refusal, found, backward, steps
@@ -32,7 +32,9 @@ import reference as ref
 
 SEED = 20260101
 TOP = 2**64 - 1
-REFUSED_WIDTHS = (0, 65, 66, 128, 2**32, 2**63, TOP)
+REFUSED_WIDTHS = (65, 66, 128, 2**32, 2**63, TOP)
+# Width 0 takes operands of its own, and refuses those of another width.
+OTHER_WIDTHS = (0, *REFUSED_WIDTHS)
 
 
 def gap_reply(*args):
@@ -142,7 +144,7 @@ def calls_with(generator):
 
 
 def refused_generators():
-    for width in REFUSED_WIDTHS:
+    for width in OTHER_WIDTHS:
         yield from calls_with((width, 0, 0, 0))
         yield from calls_with((width, TOP, TOP, TOP))
     for width in range(1, 64, 3):
@@ -289,8 +291,8 @@ def wide_runs():
     return [a_run(g) for g in generators() if g[0] % 5 == 0]
 
 
-def reading_calls():
-    for run in (*short_runs(), *wide_runs()):
+def reading_calls(runs=None):
+    for run in runs or (*short_runs(), *wide_runs()):
         line = ref.line_of(run)
         yield "R", (line,)
         yield "R", (damaged(line),)
@@ -312,14 +314,17 @@ def an_archive(runs):
     return b"".join(lines)
 
 
-def archive_calls():
-    pool = [*short_runs(), *wide_runs()]
-    for _ in range(300):
+def archives_of(pool, count):
+    for _ in range(count):
         runs = [pick(pool) for _ in range(below(7))]
         archive = an_archive(runs)
         number = a_shown_number(pick(runs)) if runs and below(4) else below(2 ** (1 + below(12)))
         yield "F", (number, archive)
         yield "L", (pick((0, 1, 1 + below(4), len(runs), TOP)), archive)
+
+
+def archive_calls():
+    yield from archives_of([*short_runs(), *wide_runs()], 300)
     for number in (5, 49, 985):
         yield "F", (number, b"4,5,3,1,0,16\n10,371,995,73,100,8\n")
 
@@ -372,7 +377,7 @@ PERIODS = (
 
 def refused_gaps():
     """Width or operand refused, beside an even multiplier too; and an even multiplier by itself."""
-    for width in REFUSED_WIDTHS:
+    for width in OTHER_WIDTHS:
         yield (width, 0, 0, 0), 0, 0
         yield (width, TOP, TOP, TOP), 0, 0
     for g in ((4, 16, 3, 1), (4, 17, 3, 1), (4, 5, 16, 1), (4, 6, 16, 1), (4, 5, 3, 16), (4, 6, 3, 16)):
@@ -384,16 +389,20 @@ def refused_gaps():
             yield g, start, end
 
 
+def period_of(g):
+    return ref.orbit_of(ref.Generator(*g))[1]
+
+
 def apart(g, i, d):
     """The numbers at an index and d behind it."""
-    period = 2 ** ref.orbit(*g)[2]
+    period = period_of(g)
     return ref.element(*g, i % period)[1], ref.element(*g, (i + d) % period)[1]
 
 
-def gaps_near_the_bounds():
+def gaps_near_the_bounds(generators=PERIODS):
     """About 0 and half the period, from a number near the seed and from any."""
-    for g in PERIODS:
-        half = 2 ** ref.orbit(*g)[2] // 2
+    for g in generators:
+        half = period_of(g) // 2
         for d in (0, 1, -1, half - 1, half, half + 1):
             start, end = apart(g, pick((0, 1, half, TOP, below(2**64))), d)
             yield g, start, end
@@ -452,7 +461,7 @@ LONG_PREPERIODS = (64, 2, 1, 1), (64, 6, 1, 1), (64, TOP - 1, 2**20, 77), (33, 1
 def refused_places():
     """Width or operand refused, beside numbers of places that are out of range and not; numbers of
     places refused by themselves, and 64, which at width 64 is not."""
-    for width in REFUSED_WIDTHS:
+    for width in OTHER_WIDTHS:
         for operands, m in product(((0, 0, 0), (TOP, TOP, TOP)), (0, 1)):
             yield (width, *operands), m, 0
     for g in ((4, 16, 3, 1), (4, 17, 3, 1), (4, 5, 16, 1), (4, 6, 16, 1), (4, 5, 3, 16), (4, 6, 3, TOP)):
@@ -527,10 +536,10 @@ def varieties_in_the_preperiod():
                 yield *g, first, min(count, TOP - first)
 
 
-def varieties_about_the_period():
+def varieties_about_the_period(generators=(*PERIODS, (4, 5, 3, 1), (5, 3, 0, 2), (10, 371, 995, 73))):
     """A count of one less than the period, as many, one more, and all there are."""
-    for g in (*PERIODS, (4, 5, 3, 1), (5, 3, 0, 2), (10, 371, 995, 73)):
-        period = 2 ** ref.orbit(*g)[2]
+    for g in generators:
+        period = period_of(g)
         for first in (0, 1, below(2**63), TOP - 1):
             for count in sorted({max(period - 1, 1), period, period + 1, TOP}):
                 yield *g, first, min(count, TOP - first)
@@ -549,10 +558,167 @@ def variety_calls():
             yield "V", run
 
 
+# Width 0. Its numbers are 1 to PRIME - 1, and its period is the product of the FACTORS.
+PRIME, PERIOD = ref.PRIME_MODULUS, ref.PRIME_PERIOD
+FACTORS = 2, 9, 7, 11, 31, 151, 331
+ABSENT = 0, PRIME, PRIME + 1, PRIME + 16807, 2**31, 2**32 + 1, 2**63, TOP
+
+
+def prime(seed):
+    return 0, 16807, 0, seed
+
+
+def a_residue():
+    """From 1 to PRIME - 1."""
+    return 1 + below(PERIOD)
+
+
+def prime_generators(more):
+    return [prime(seed) for seed in (1, 2, 16807, PRIME - 1, *(a_residue() for _ in range(more)))]
+
+
+def prime_elements():
+    """The first ones in a row; of more seeds about the period's end, the last ones, and any."""
+    for i in range(40):
+        yield "E", (*prime(1), i)
+    for g in prime_generators(8):
+        yield "O", g
+        for i in (0, 1, 2, PERIOD - 1, PERIOD, PERIOD + 1, 2**32, 2**63, TOP - 1, TOP, below(PERIOD), below(2**64)):
+            yield "E", (*g, i)
+
+
+def prime_indices():
+    """The seed, 1, the largest number, the one before the seed, and any; those that never occur."""
+    for g in prime_generators(8):
+        before = ref.element(*g, PERIOD - 1)[1]
+        for number in (g[3], 1, 2, PRIME - 1, before, *(a_residue() for _ in range(4)), *ABSENT):
+            yield "I", (*g, number)
+            yield "P", (*g, number)
+
+
+def chosen_remainders():
+    """By the factors: one of them other than 0; each 0 or the largest, by chance."""
+    for place, factor in enumerate(FACTORS):
+        for remainder in sorted({1, 2 % factor, factor // 3, factor * 2 // 3, factor - 1} - {0}):
+            yield [remainder if at == place else 0 for at in range(len(FACTORS))]
+    for _ in range(60):
+        yield [pick((0, factor - 1)) for factor in FACTORS]
+
+
+def prime_digits():
+    """The elements at the indices that leave these remainders."""
+    for remainders in chosen_remainders():
+        others = [PERIOD // factor for factor in FACTORS]
+        i = sum(r * k * pow(k, -1, factor) for r, k, factor in zip(remainders, others, FACTORS))
+        g = prime(pick((1, a_residue())))
+        yield "I", (*g, ref.element(*g, i % PERIOD)[1])
+
+
+def prime_gaps():
+    """About 0 and half the period; any; with a number that never occurs first, second and twice."""
+    yield from gaps_near_the_bounds(prime_generators(4))
+    for g in prime_generators(20):
+        yield g, a_residue(), a_residue()
+        yield g, pick(ABSENT), a_residue()
+        yield g, g[3], pick(ABSENT)
+        yield g, pick(ABSENT), pick(ABSENT)
+
+
+def prime_places():
+    for g in prime_generators(1):
+        for m, y in product((0, 1, 31, 32, 64, 65, TOP), (0, 1, g[3], TOP)):
+            yield g, m, y
+
+
+def prime_runs():
+    """Anywhere, and across the period's end."""
+    for g in prime_generators(30):
+        yield a_run(g)
+        yield *g, pick((0, PERIOD - 3, 2 * PERIOD - 2, below(2**64 - 100))), 1 + below(40)
+
+
+def prime_run_calls():
+    for run in prime_runs():
+        length, count = len(ref.line_of(run)), run[5]
+        yield "V", run
+        yield "W", (*run, length + pick((0, 0, 1, -1, 13, -length)))
+        yield "M", (*run, pick((0, 1, count - 1, count, below(count), TOP)), pick((5, 5, below(6))))
+
+
+# Multiplier, increment and seed, of which at least one is refused at width 0.
+PRIME_OPERANDS = (
+    *((multiplier, 0, 1) for multiplier in (0, 1, 5, 16806, 16808, 16807 + PRIME, 2**32 + 16807, TOP)),
+    *((16807, increment, 1) for increment in (1, PRIME, 2**32, TOP)),
+    *((16807, 0, seed) for seed in (0, PRIME, PRIME + 1, 2**32 + 1, TOP)),
+    (16808, 1, 0),
+)
+
+
+def refused_at_width_0(g):
+    """Every call, with what would be refused by itself: 5, 6, 8, 9; and an archive."""
+    yield from calls_with(g)
+    yield "P", (*g, PRIME)
+    yield "B", (*g, 0, 0)
+    yield "B", (*g, 1, 1)
+    yield "G", (*g, 1, 0)
+    yield "V", (*g, TOP, 1)
+    yield "W", (*g, 0, 0, 0)
+    yield "W", (*g, 0, 1, 0)
+    yield "M", (*g, 0, 0, 0, 5)
+    yield "M", (*g, 0, 1, 0, 5)
+    for count in (0, 1):
+        line = ref.line_of((*g, 0, count))
+        yield "R", (line,)
+        yield "F", (1, b"0,16807,0,1,0,5\n" + line)
+
+
+def refusals_at_width_0():
+    """Each operand that is refused, some at width 65 too; and operands that are not."""
+    for operands in PRIME_OPERANDS:
+        yield from refused_at_width_0((0, *operands))
+    for operands in ((16807, 0, 1), (16807, 0, 0)):
+        yield from refused_at_width_0((65, *operands))
+    for seed in (1, PRIME - 1):
+        yield from refused_at_width_0(prime(seed))
+
+
+def worked_mixed_archives():
+    """A number that a line of width 0 and one of another width show, in both orders; one that width 0
+    shows only behind the end of its run, before it, or never."""
+    linear, prime_line = b"31,5,3,1,0,9\n", b"0,16807,0,1,0,5\n"
+    shown = [ref.element(*prime(1), i)[1] for i in (*range(7), PERIOD - 1)]
+    in_each_order = linear + prime_line, prime_line + linear, prime_line * 2, linear + prime_line * 2
+    for archive in in_each_order:
+        for number in (*shown, 8, 43, 0, PRIME, PRIME + 1, TOP):
+            yield "F", (number, archive)
+    same_number = b"40,1,1,%d,0,9\n" % shown[4]
+    for archive in (same_number + prime_line, prime_line + same_number):
+        yield "F", (shown[4], archive)
+        yield "L", (2, archive)
+    for bad in (b"0,16807,0,0,0,5\n", b"65,16807,0,1,0,5\n", b"0,16807,0,1,0,0\n", b"0,16807,0,1,0,05\n"):
+        for archive in (linear + bad, prime_line + bad, bad + prime_line, prime_line + bad + b"65,5,3,1,0,0\n"):
+            yield "F", (1, archive)
+            yield "L", (1, archive)
+
+
+def prime_calls():
+    yield from prime_elements()
+    yield from prime_indices()
+    yield from prime_digits()
+    yield from (("G", (*g, start, end)) for g, start, end in prime_gaps())
+    yield from (("B", (*g, m, number)) for g, m, number in prime_places())
+    yield from (("V", run) for run in varieties_about_the_period(prime_generators(2)))
+    yield from prime_run_calls()
+    yield from refusals_at_width_0()
+    yield from reading_calls([*prime_runs()])
+    yield from worked_mixed_archives()
+    yield from archives_of([*prime_runs(), *short_runs(), *wide_runs()], 120)
+
+
 def all_calls():
     refused = refused_generators, refused_runs, one_way, refused_archives
     accepted = long_sequences, wide_calls, printed_tables, valid_calls, reading_calls, archive_calls, remaking_calls
-    parts = bounds, *refused, *accepted, gap_calls, places_calls, variety_calls
+    parts = bounds, *refused, *accepted, gap_calls, places_calls, variety_calls, prime_calls
     return dict.fromkeys((code, tuple(args)) for part in parts for code, args in part())
 
 

@@ -29,9 +29,11 @@ pub const LINE_MAX: usize = 107;
 pub const ARCHIVE_MAX: usize = 65_536;
 
 /// A linear congruential sequence. Element 0 is the seed; element i + 1 is
-/// `multiplier` × (element i) + `increment` modulo 2^`width`.
+/// `multiplier` × (element i) + `increment` modulo 2^`width`, or at width 0 modulo 2147483647.
 ///
-/// It is accepted when the width is 1 to 64 and the other three are below 2^`width`.
+/// It is accepted when the width is 1 to 64 and the other three are below 2^`width`; and at width 0,
+/// which is the generator of APL\360, when the multiplier is 16807, the increment 0 and the seed 1 to
+/// 2147483646.
 #[repr(C)]
 #[derive(Clone, Copy, Debug, Default, PartialEq, Eq, Hash)]
 pub struct Generator {
@@ -76,15 +78,28 @@ impl From<Run> for [u64; 6] {
 pub struct Orbit {
     /// The least index whose element occurs again at a later index.
     pub preperiod: u64,
-    /// The period is 2 to this power, 0 to 64.
-    pub exponent: u64,
+    /// After how many indices it first does.
+    pub period: Period,
 }
 
 impl Orbit {
+    /// The period as a number.
     #[inline]
     pub fn period(self) -> u128 {
-        1 << self.exponent
+        match self.period {
+            Period::PowerOfTwo { exponent } => 1 << exponent,
+            Period::Whole(period) => period.into(),
+        }
     }
+}
+
+/// A period, which as a power of two may be 2^64.
+#[derive(Clone, Copy, Debug, PartialEq, Eq, Hash)]
+pub enum Period {
+    /// 2^`exponent`, at widths 1 to 64; `exponent` is 0 to 64.
+    PowerOfTwo { exponent: u64 },
+    /// This number itself, at width 0.
+    Whole(u64),
 }
 
 /// Where a value first occurs in a sequence that has no end.
@@ -138,6 +153,11 @@ fn value(reply: raw::Value) -> Result<u64, Refusal> {
 /// assert_eq!(element(g, 1000), Ok(985));
 /// assert_eq!(element(Generator { width: 65, ..g }, 0), Err(Refusal::WidthOutOfRange));
 /// assert_eq!(element(Generator { seed: 1024, ..g }, 0), Err(Refusal::OperandOutOfRange));
+///
+/// let prime = Generator { width: 0, multiplier: 16807, increment: 0, seed: 1 };
+/// assert_eq!(element(prime, 2), Ok(282_475_249));
+/// assert_eq!(element(prime, 2_147_483_646), Ok(1));
+/// assert_eq!(element(Generator { seed: 0, ..prime }, 2), Err(Refusal::OperandOutOfRange));
 /// ```
 #[inline]
 pub fn element(g: Generator, index: u64) -> Result<u64, Refusal> {
@@ -147,17 +167,21 @@ pub fn element(g: Generator, index: u64) -> Result<u64, Refusal> {
 /// The preperiod and the period.
 ///
 /// ```
-/// use noonpasture::{orbit, Generator, Orbit};
+/// use noonpasture::{orbit, Generator, Orbit, Period};
 ///
 /// let g = Generator { width: 4, multiplier: 6, increment: 1, seed: 1 };
-/// assert_eq!(orbit(g), Ok(Orbit { preperiod: 3, exponent: 0 }));
+/// assert_eq!(orbit(g), Ok(Orbit { preperiod: 3, period: Period::PowerOfTwo { exponent: 0 } }));
 /// let counter = Generator { width: 64, multiplier: 1, increment: 1, seed: 0 };
 /// assert_eq!(orbit(counter).unwrap().period(), 1 << 64);
+/// let prime = Generator { width: 0, multiplier: 16807, increment: 0, seed: 1 };
+/// assert_eq!(orbit(prime), Ok(Orbit { preperiod: 0, period: Period::Whole(2_147_483_646) }));
+/// assert_eq!(orbit(prime).unwrap().period(), 2_147_483_646);
 /// ```
 #[inline]
 pub fn orbit(g: Generator) -> Result<Orbit, Refusal> {
-    let raw::OrbitReply { refusal, preperiod, exponent } = raw::orbit(g);
-    Refusal::of(refusal).map(|()| Orbit { preperiod, exponent })
+    let raw::OrbitReply { refusal, preperiod, exponent, period } = raw::orbit(g);
+    let period = if period == 0 { Period::PowerOfTwo { exponent } } else { Period::Whole(period) };
+    Refusal::of(refusal).map(|()| Orbit { preperiod, period })
 }
 
 /// The least index that yields the value, or never.
@@ -168,6 +192,11 @@ pub fn orbit(g: Generator) -> Result<Orbit, Refusal> {
 /// let g = Generator { width: 4, multiplier: 5, increment: 3, seed: 1 };
 /// assert_eq!(index(g, 6), Ok(Index::At(15)));
 /// assert_eq!(index(g, 16), Ok(Index::Never));
+///
+/// let prime = Generator { width: 0, multiplier: 16807, increment: 0, seed: 1 };
+/// assert_eq!(index(prime, 282_475_249), Ok(Index::At(2)));
+/// assert_eq!(index(prime, 0), Ok(Index::Never));
+/// assert_eq!(index(prime, 2_147_483_647), Ok(Index::Never));
 /// ```
 #[inline]
 pub fn index(g: Generator, value: u64) -> Result<Index, Refusal> {
@@ -177,7 +206,7 @@ pub fn index(g: Generator, value: u64) -> Result<Index, Refusal> {
 
 /// The least index at which the element's lowest `places` bits (the element modulo 2^`places`) are the
 /// value, and whether that recurs; or never, as for every value of 2^`places` or more. With `places` =
-/// `width` the least index is that of [`index`].
+/// `width` the least index is that of [`index`]. At width 0 every number of places is refused.
 ///
 /// ```
 /// use noonpasture::{index, index_places, Generator, Index, Occurrences, Refusal};
@@ -195,6 +224,9 @@ pub fn index(g: Generator, value: u64) -> Result<Index, Refusal> {
 /// assert_eq!(index_places(even, 2, 1), Ok(Occurrences::Once(0)));
 /// assert_eq!(index_places(even, 2, 0), Ok(Occurrences::Every { index: 2, exponent: 0 }));
 /// assert_eq!(index_places(even, 2, 3), Ok(Occurrences::Never));
+///
+/// let prime = Generator { width: 0, multiplier: 16807, increment: 0, seed: 1 };
+/// assert_eq!(index_places(prime, 31, 1), Err(Refusal::PlacesOutOfRange));
 /// ```
 #[inline]
 pub fn index_places(g: Generator, places: u64, value: u64) -> Result<Occurrences, Refusal> {
@@ -222,6 +254,11 @@ pub fn index_places(g: Generator, places: u64, value: u64) -> Result<Occurrences
 ///
 /// let counter = Generator { width: 64, multiplier: 1, increment: 1, seed: 0 };
 /// assert_eq!(gap(counter, 0, 1 << 63), Ok(Gap::Steps(i64::MIN)));
+///
+/// let prime = Generator { width: 0, multiplier: 16807, increment: 0, seed: 1 };
+/// assert_eq!(gap(prime, 282_475_249, 1), Ok(Gap::Steps(-2)));
+/// assert_eq!(gap(prime, 1, 2_147_483_646), Ok(Gap::Steps(-1_073_741_823)));
+/// assert_eq!(gap(prime, 1, 0), Ok(Gap::Never));
 /// ```
 #[inline]
 pub fn gap(g: Generator, from: u64, to: u64) -> Result<Gap, Refusal> {
@@ -229,7 +266,7 @@ pub fn gap(g: Generator, from: u64, to: u64) -> Result<Gap, Refusal> {
     Refusal::of(refusal).map(|()| if found == 0 { Gap::Never } else { Gap::Steps(steps) })
 }
 
-/// The only number below 2^width that one step takes to the value.
+/// The only number below 2^width, at width 0 from 1 to 2147483646, that one step takes to the value.
 ///
 /// ```
 /// use noonpasture::{predecessor, Generator, Refusal};
@@ -238,6 +275,10 @@ pub fn gap(g: Generator, from: u64, to: u64) -> Result<Gap, Refusal> {
 /// assert_eq!(predecessor(g, 8), Ok(1));
 /// assert_eq!(predecessor(g, 16), Err(Refusal::ValueOutOfRange));
 /// assert_eq!(predecessor(Generator { multiplier: 6, ..g }, 8), Err(Refusal::NotInvertible));
+///
+/// let prime = Generator { width: 0, multiplier: 16807, increment: 0, seed: 1 };
+/// assert_eq!(predecessor(prime, 282_475_249), Ok(16807));
+/// assert_eq!(predecessor(prime, 0), Err(Refusal::ValueOutOfRange));
 /// ```
 #[inline]
 pub fn predecessor(g: Generator, value: u64) -> Result<u64, Refusal> {
@@ -265,6 +306,7 @@ pub fn customary_multiplier(width: u64) -> Result<u64, Refusal> {
 /// assert_eq!(variety(Run::from([4, 5, 3, 1, 0, 20])), Ok(16));
 /// assert_eq!(variety(Run::from([4, 2, 0, 1, 0, 10])), Ok(5));
 /// assert_eq!(variety(Run::from([4, 2, 0, 1, 3, 10])), Ok(2));
+/// assert_eq!(variety(Run::from([0, 16807, 0, 1, 0, 1 << 32])), Ok(2_147_483_646));
 /// assert_eq!(variety(Run::from([4, 5, 3, 1, 0, 0])), Err(Refusal::RunOutOfRange));
 /// ```
 #[inline]
@@ -296,6 +338,7 @@ pub fn write_line(run: Run, buffer: &mut [u8]) -> Result<usize, Refusal> {
 /// use noonpasture::{read_line, Refusal, Run};
 ///
 /// assert_eq!(read_line(b"4,5,3,1,0,16\n"), Ok(Run::from([4, 5, 3, 1, 0, 16])));
+/// assert_eq!(read_line(b"0,16807,0,1,0,5\n"), Ok(Run::from([0, 16807, 0, 1, 0, 5])));
 /// assert_eq!(read_line(b"4,5,3,1,0,16\r\n"), Err(Refusal::MalformedLine));
 /// assert_eq!(read_line(b""), Err(Refusal::MalformedLine));
 /// ```
@@ -349,6 +392,7 @@ pub fn line(archive: &[u8], line: u64) -> &[u8] {
 /// use noonpasture::{lookup, Location, Refusal, Refused};
 ///
 /// assert_eq!(lookup(b"4,5,3,1,0,16\n", 5), Ok(Some(Location { line: 1, position: 4 })));
+/// assert_eq!(lookup(b"0,16807,0,1,0,5\n4,5,3,1,0,16\n", 5), Ok(Some(Location { line: 2, position: 4 })));
 /// assert_eq!(lookup(b"", 5), Ok(None));
 /// let refused = lookup(b"4,5,3,1,0,16\n4,5,3,1,0,0\n", 5).unwrap_err();
 /// assert_eq!(refused, Refused { refusal: Refusal::RunOutOfRange, line: 2 });

@@ -10,12 +10,14 @@ pub struct Value {
     pub value: u64,
 }
 
+/// `period` is 0 where it is 2^`exponent`; else it is the period itself, and `exponent` is 0.
 #[repr(C)]
 #[derive(Clone, Copy, Debug, Default, PartialEq, Eq)]
 pub struct OrbitReply {
     pub refusal: u64,
     pub preperiod: u64,
     pub exponent: u64,
+    pub period: u64,
 }
 
 /// `found` is 0 for never.

@@ -56,10 +56,13 @@ impl Display for Refusal {
         f.write_str(match self {
             Refusal::ArchiveTooLong => "the archive has more than 65,536 bytes",
             Refusal::MalformedLine => "bytes that are not a valid line",
-            Refusal::WidthOutOfRange => "the width is out of range",
-            Refusal::OperandOutOfRange => "the multiplier, the increment or the seed is 2^width or more",
+            Refusal::WidthOutOfRange => "the width is above 64, or below 3 for a customary multiplier",
+            Refusal::OperandOutOfRange => {
+                "the multiplier, the increment or the seed is 2^width or more, \
+                 or at width 0 other than 16807, 0 and 1 to 2147483646"
+            }
             Refusal::RunOutOfRange => "the count is 0, or first + count is above 2^64 - 1",
-            Refusal::ValueOutOfRange => "the value is 2^width or more",
+            Refusal::ValueOutOfRange => "the value is 2^width or more, or at width 0 not 1 to 2147483646",
             Refusal::NotInvertible => "the multiplier is even: a predecessor or a gap needs an odd one",
             Refusal::BufferTooShort => "the buffer is shorter than the line",
             Refusal::PlacesOutOfRange => "the number of places is 0 or above the width",

@@ -50,7 +50,7 @@ fn facts() -> Vec<Fact> {
     layout!(facts, "np_generator", Generator { width, multiplier, increment, seed });
     layout!(facts, "np_run", Run { generator, first, count });
     layout!(facts, "np_value", Value { refusal, value });
-    layout!(facts, "np_orbit_reply", OrbitReply { refusal, preperiod, exponent });
+    layout!(facts, "np_orbit_reply", OrbitReply { refusal, preperiod, exponent, period });
     layout!(facts, "np_index_reply", IndexReply { refusal, found, index });
     layout!(facts, "np_places_reply", PlacesReply { refusal, found, index, recurs, exponent });
     layout!(facts, "np_gap_reply", GapReply { refusal, found, steps });

@@ -1,19 +1,18 @@
 -- Every kind of generator: its elements are below the modulus, equal ones have equal successors, and from one of them on the
--- generator with that element for its seed goes on in the same way.
+-- generator with that element for its seed goes on in the same way. Of the prime-modulus models: their elements are those of
+-- `powers`.
 use mathlib.Core.Path.{_≡_, refl, sym, ap, subst, _∙_}
-use mathlib.Core.Bool.{cond}
-use Prim.Native.Nat.{ℕ, zero, suc, _+_, _*_, _^_, _≤_, _<_}
+use Prim.Native.Nat.{ℕ, zero, suc, _+_, _*_, _%_, _≤_, _<_}
 use native.Mathlib.Nat.{add-zero, add-suc, mod-lt}
-use native.Mathlib.Omega.{arith}
-use lib.Dec.{leb}
-use lib.Pow.{pow-pos}
-use borrow.Author.Tests.{eq-eqb, ne-eqb, lt-leb, le-ltb}
 use Rattle.sequences.proofs.Orbits.{Follows}
+use Rattle.powers.specs.Prime.{along}
+use Rattle.powers.proofs.Sequences.{Multiplies, multiplied, element-low, element-high}
 use Rattle.generator.specs.declared.Generator.{Generator}
 use Rattle.generator.specs.Recurrence.{modulus, step, element}
 use Rattle.generator.specs.Refusals.{refusalOf}
 use Rattle.generator.specs.Kinds.{IsElement, seeded, Restarted}
-use Rattle.generator.proofs.Refusals.{Accepted, accepted}
+use Rattle.generator.specs.Prime.{Prime}
+use Rattle.generator.proofs.Refusals.{Accepted, accepted, accepted-none, modulus-positive, prime}
 
 -- the next element is one step on
 pub element-next : (g : Generator) (i : ℕ) → element g (suc i) ≡ step g (element g i)
@@ -28,9 +27,34 @@ pub element-follows : (g : Generator) → Follows (element g)
 element-follows g = record { next = λ i j e. element-next g i ∙ ap (step g) e ∙ sym (element-next g j) }
 
 pub element-below : (g : Generator) → refusalOf g ≡ 0 → (i : ℕ) → element g i < modulus g
-unfolding element step modulus
+unfolding element step
 element-below g e zero = accepted g e .seed-below
-element-below g e (suc i) = mod-lt _ (pow-pos (g .width))
+element-below g e (suc i) = mod-lt _ (modulus-positive g)
+
+-- the prime-modulus models: a step multiplies by 16807, and no element is 0
+pub prime-step : {g : Generator} → Prime g → (x : ℕ) → step g x ≡ 16807 * x % 2147483647
+unfolding step modulus
+prime-step {g} p x =
+    rw (p .multiplier, p .increment, p .width)
+    (ap (λ (k : ℕ). k % 2147483647) (add-zero (16807 * x)))
+
+pub prime-multiplies : {g : Generator} → Prime g → Multiplies (element g)
+prime-multiplies {g} p =
+    record {
+      low = rw (element-start g) (p .seed-low);
+      high = rw (element-start g) (p .seed-high);
+      next = λ i. element-next g i ∙ prime-step p (element g i);
+    }
+
+pub prime-element : {g : Generator} → Prime g → (i : ℕ) → element g i ≡ along (g .seed) i
+prime-element {g} p i = multiplied (prime-multiplies p) i ∙ ap (λ (s : ℕ). along s i) (element-start g)
+
+pub element-at-zero : (g : Generator) → refusalOf g ≡ 0 → g .width ≡ 0 → (i : ℕ) → 1 ≤ element g i
+element-at-zero g e z = element-low (prime-multiplies (prime g e z))
+
+pub prime-below : {g : Generator} {x : ℕ} → refusalOf g ≡ 0 → g .width ≡ 0 → IsElement g x → x < 2147483647
+prime-below {g} {x} e z is =
+    subst (λ (u : ℕ). u < 2147483647) (is .yields) (element-high (prime-multiplies (prime g e z)) (is .index))
 
 -- from element i on
 module _ (g : Generator) {x : ℕ} where
@@ -39,18 +63,24 @@ module _ (g : Generator) {x : ℕ} where
   seeded-goes-on i e zero = sym e ∙ ap (element g) (sym (add-zero i))
   seeded-goes-on i e (suc p) = ap (step g) (seeded-goes-on i e p) ∙ ap (element g) (sym (add-suc i p))
 
-  -- the table of refusals asks of the seed only that it is below the modulus
+  -- the table of refusals asks of the seed only that it is below the modulus and, at width 0, that it is not 0
   seeded-accepted : refusalOf g ≡ 0 → IsElement g x → refusalOf (seeded g x) ≡ 0
-  unfolding refusalOf modulus
+  unfolding modulus
   seeded-accepted e is =
-      let a = accepted g e in
-      simp (
-        ne-eqb (g .width) 0 (λ q. omega (arith, a .width-low)),
-        le-ltb 64 (g .width) (a .width-high),
-        lt-leb _ _ (a .multiplier-below),
-        lt-leb _ _ (a .increment-below),
-        lt-leb _ _ (subst (λ (u : ℕ). u < modulus g) (is .yields) (element-below g e (is .index))),
-      )
+      accepted-none (seeded g x)
+      (record {
+        width-high = a .width-high;
+        multiplier-below = a .multiplier-below;
+        increment-below = a .increment-below;
+        seed-below = subst (λ (u : ℕ). u < modulus g) (is .yields) (element-below g e (is .index));
+        at-zero =
+            λ z.
+            let fit = a .at-zero z in
+            (fit .0, fit .1, subst (λ (u : ℕ). 1 ≤ u) (is .yields) (element-at-zero g e z (is .index)));
+      })
+    where
+      a : Accepted g
+      a = accepted g e
 
   pub restarts : {r : Generator} → (refusalOf g ≡ 0) × IsElement g x → r ≡ seeded g x → Restarted g x r
   restarts h q =

@@ -25,14 +25,32 @@ widest : element (gen 64 18446744073709551615 1 5) 1 ≡ 18446744073709551612
 unfolding element step modulus
 widest = refl
 
--- accepted; 3 for widths 0, 65 and 2^64 - 1; 4 for an operand of 2^n; 3 before 4
+-- accepted; 3 for widths 65 and 2^64 - 1; 4 for an operand of 2^n; 3 before 4
 refusals :
     map refusalOf
-    (gen 64 0 0 0 ∷ gen 0 0 0 0 ∷ gen 65 0 0 0 ∷ gen 18446744073709551615 0 0 0 ∷ gen 4 15 15 15
-    ∷ gen 4 16 0 0 ∷ gen 4 0 16 0 ∷ gen 4 0 0 16 ∷ gen 0 9 9 9 ∷ [])
-    ≡ 0 ∷ 3 ∷ 3 ∷ 3 ∷ 0 ∷ 4 ∷ 4 ∷ 4 ∷ 3 ∷ []
+    (gen 64 0 0 0 ∷ gen 1 0 0 0 ∷ gen 65 0 0 0 ∷ gen 18446744073709551615 0 0 0 ∷ gen 4 15 15 15
+    ∷ gen 4 16 0 0 ∷ gen 4 0 16 0 ∷ gen 4 0 0 16 ∷ gen 65 9 9 9 ∷ [])
+    ≡ 0 ∷ 0 ∷ 3 ∷ 3 ∷ 0 ∷ 4 ∷ 4 ∷ 4 ∷ 3 ∷ []
 unfolding refusalOf modulus
 refusals = refl
+
+-- the prime-modulus models: document 02's elements; 4 for another multiplier, another increment, the seeds 0 and 2147483647;
+-- 6 for the predecessor of 0 and of 2147483647
+prime-elements : map (element (gen 0 16807 0 1)) (0 ∷ 1 ∷ 2 ∷ []) ≡ 1 ∷ 16807 ∷ 282475249 ∷ []
+unfolding element step modulus
+prime-elements = refl
+
+prime-refusals :
+    map refusalOf
+    (gen 0 16807 0 1 ∷ gen 0 16807 0 2147483646 ∷ gen 0 16806 0 1 ∷ gen 0 16807 1 1 ∷ gen 0 16807 0 0
+    ∷ gen 0 16807 0 2147483647 ∷ gen 0 0 0 0 ∷ [])
+    ≡ 0 ∷ 0 ∷ 4 ∷ 4 ∷ 4 ∷ 4 ∷ 4 ∷ []
+unfolding refusalOf modulus
+prime-refusals = refl
+
+prime-predecessors : map (predecessorRefusal (gen 0 16807 0 1)) (0 ∷ 1 ∷ 2147483646 ∷ 2147483647 ∷ []) ≡ 6 ∷ 0 ∷ 0 ∷ 6 ∷ []
+unfolding predecessorRefusal refusalOf modulus
+prime-predecessors = refl
 
 predecessors : map (predecessorOf (gen 4 5 3 1)) (8 ∷ 11 ∷ 1 ∷ []) ≡ 1 ∷ 8 ∷ 6 ∷ []
 unfolding predecessorOf least step modulus

@@ -1,4 +1,5 @@
--- One step is undone by an odd multiplier's inverse, and since an odd factor cancels nothing else steps to the same number.
+-- One step is undone by an odd multiplier's inverse, and since an odd factor cancels nothing else steps to the same number. The
+-- same holds of 16807 modulo 2147483647.
 use mathlib.Core.Path.{_≡_, sym, _∙_}
 use mathlib.Core.Bool.{cond, false}
 use Prim.Native.Nat.{ℕ, _+_, _*_, _%_, _^_, _<_}
@@ -15,11 +16,14 @@ use Rattle.generator.specs.Recurrence.{modulus, step}
 use Rattle.generator.specs.Refusals.{refusalOf, numberOf}
 use Rattle.generator.specs.Replies.{valueOf}
 use Rattle.generator.specs.Affine.{Linear}
-use Rattle.generator.specs.Predecessor.{predecessorRefusal, predecessorOf, OnlyPredecessor, PredecessorPromise}
+use Rattle.generator.specs.Prime.{Prime}
+use Rattle.generator.specs.Predecessor.{valueRefused, predecessorRefusal, predecessorOf, OnlyPredecessor, PredecessorPromise}
 use Rattle.sequences.proofs.Least.{least-unique}
-use Rattle.generator.proofs.Refusals.{modulus-linear, linear, cond-none, or-else-none}
+use Rattle.powers.proofs.Multiplying.{steps-apart}
+use Rattle.generator.proofs.Refusals.{modulus-linear, modulus-prime, linear, prime, cond-none, or-false, or-else-none}
 use Rattle.generator.proofs.Replies.{number-nonzero, value-refused, value-given}
 use Rattle.generator.proofs.Walking.{step-linear}
+use Rattle.generator.proofs.Elements.{prime-step}
 
 -- the only predecessor is the least number that steps to y
 pub only-is-least : {g : Generator} {y z : ℕ} → OnlyPredecessor g y z → predecessorOf g y ≡ z
@@ -91,27 +95,44 @@ steps-back {g} b d {p} {y} {z} pre eb ed ep ez =
         ∙ same-trans (same-add scaled (same-refl P (g .increment))) (low (record { same = ed ∙ sym (mod-eq-of-lt high) })) .same
         ∙ mod-eq-of-lt (pre .2)
 
--- what the predecessor's refusals leave
-pub invertible :
-    (g : Generator) (y : ℕ) → predecessorRefusal g y ≡ 0 → (Linear g) × (g .multiplier % 2 ≡ 1) × (y < 2 ^ g .width)
-unfolding predecessorRefusal
-invertible g y e =
-    (v, omega (arith, eqb-false (g .multiplier % 2) 0 (parity .0)), rw (modulus-linear g (v .width-low)) at (leb-false (modulus g) y (wide .0)))
+-- of a prime-modulus model
+pub prime-steps-back : {g : Generator} {y z : ℕ} → (Prime g) × (y < 2147483647) →
+    (z < 2147483647) × (16807 * z % 2147483647 ≡ y) → OnlyPredecessor g y z
+prime-steps-back {g} {y} {z} pre h =
+    record {
+      below = rw whole (h .0);
+      steps = prime-step (pre .0) z ∙ h .1;
+      only = λ w l e. steps-apart (rw whole at l) (h .0) (sym (prime-step (pre .0) w) ∙ e ∙ sym (h .1));
+    }
   where
-    even : ℕ
-    even = cond (eqb (g .multiplier % 2) 0) 7 0
+    whole : modulus g ≡ 2147483647
+    whole = modulus-prime g (pre .0 .width)
 
-    both : (refusalOf g ≡ 0) × (cond (leb (modulus g) y) 6 even ≡ 0)
-    both = or-else-none (refusalOf g) (cond (leb (modulus g) y) 6 even) e
+-- what the predecessor's refusals leave
+module _ (g : Generator) (y : ℕ) (e : predecessorRefusal g y ≡ 0) where
+  even : ℕ
+  even = cond (eqb (g .multiplier % 2) 0) 7 0
 
-    v : Linear g
-    v = linear g (both .0)
+  both : (refusalOf g ≡ 0) × (cond (valueRefused g y) 6 even ≡ 0)
+  unfolding predecessorRefusal even
+  both = or-else-none (refusalOf g) (cond (valueRefused g y) 6 even) e
 
-    wide : (leb (modulus g) y ≡ false) × (even ≡ 0)
-    wide = cond-none (leb (modulus g) y) 5 even (both .1)
+  fitting : (valueRefused g y ≡ false) × (even ≡ 0)
+  fitting = cond-none (valueRefused g y) 5 even (both .1)
 
-    parity : (eqb (g .multiplier % 2) 0 ≡ false) × (_≡_ {A = ℕ} 0 0)
-    parity = cond-none (eqb (g .multiplier % 2) 0) 6 0 (wide .1)
+  value-below : y < modulus g
+  value-below = leb-false (modulus g) y (or-false (leb (modulus g) y) _ (fitting .0) .0)
+
+  parity : g .multiplier % 2 ≡ 1
+  unfolding even
+  parity = omega (arith, eqb-false (g .multiplier % 2) 0 (cond-none (eqb (g .multiplier % 2) 0) 6 0 (fitting .1) .0))
+
+  pub invertible : (g .width ≡ 0 → ⊥) → (Linear g) × (g .multiplier % 2 ≡ 1) × (y < 2 ^ g .width)
+  invertible nonzero =
+      let v = linear g (both .0) nonzero in (v, parity, rw (modulus-linear g (v .width-low)) at value-below)
+
+  pub prime-invertible : g .width ≡ 0 → (Prime g) × (y < 2147483647)
+  prime-invertible z = (prime g (both .0) z, rw (modulus-prime g z) at value-below)
 
 -- the promise of the call, where it refuses and where it answers
 pub predecessor-refused :

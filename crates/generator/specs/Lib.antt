@@ -1,5 +1,5 @@
--- What the contracts of this crate cite. All but `Kinds`, `Affine` and `Trace` is what has to be believed of the calls; these
--- three are cited only by functions behind them, and `Trace` is also for whoever traces the jump.
+-- What the contracts of this crate cite. All but `Kinds`, `Affine`, `Prime` and `Trace` is what has to be believed of the calls;
+-- these four are cited only by functions behind them, and `Trace` is also for whoever traces the jump.
 pub mod Recurrence
 pub mod Refusals
 pub mod Replies
@@ -7,4 +7,5 @@ pub mod Predecessor
 pub mod Customary
 pub mod Kinds
 pub mod Affine
+pub mod Prime
 pub mod Trace

@@ -1,6 +1,6 @@
 -- The predecessor of a number (SCOPE 3.4).
 use mathlib.Core.Path.{_≡_}
-use mathlib.Core.Bool.{cond}
+use mathlib.Core.Bool.{Bool, cond, _&&_, _||_}
 use Prim.Native.Nat.{ℕ, _%_, _<_}
 use lib.Dec.{eqb, leb}
 use Rattle.generator.specs.declared.Generator.{Generator}
@@ -10,10 +10,13 @@ use Rattle.generator.specs.Refusals.{orElse, refusalOf}
 use Rattle.generator.specs.declared.ValueReply.{ValueReply}
 use Rattle.generator.specs.Replies.{valueReply}
 
--- After 3 and 4, 6: the number is not below the modulus; 7: the multiplier is even.
+-- 6: the number is not below the modulus, or it is 0 at width 0.
+abbrev pub valueRefused : Generator → ℕ → Bool
+valueRefused g y = leb (modulus g) y || (eqb (g .width) 0 && eqb y 0)
+
+-- After 3 and 4, 6, and after it 7: the multiplier is even.
 unfoldable pub predecessorRefusal : Generator → ℕ → ℕ
-predecessorRefusal g y =
-    orElse (refusalOf g) (cond (leb (modulus g) y) 6 (cond (eqb (g .multiplier % 2) 0) 7 0))
+predecessorRefusal g y = orElse (refusalOf g) (cond (valueRefused g y) 6 (cond (eqb (g .multiplier % 2) 0) 7 0))
 
 -- The least number below the modulus that one step takes to y.
 unfoldable pub predecessorOf : Generator → ℕ → ℕ

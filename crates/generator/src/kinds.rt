@@ -4,16 +4,21 @@ ghost use Prim.Native.Nat.{_≤_};
 ghost use lib.Dec.{leb};
 ghost use Rattle.generator.specs.Recurrence.{modulus, element, step};
 ghost use Rattle.generator.specs.Refusals.{refusalOf};
+ghost use Rattle.generator.specs.Predecessor.{predecessorRefusal, OnlyPredecessor};
 ghost use Rattle.generator.specs.Kinds.{IsElement, Restarted};
 use crate::Generator;
 use crate::linear;
+use crate::prime;
 use words::bits::exceeds;
 
 // Whether x is not below the modulus.
 pub fn exceeds_modulus(g: Generator, x: u64) -> bool
-    requires { ⌜ (1 ≤ g .width) × (g .width ≤ 64) ⌝ }
+    requires { ⌜ g .width ≤ 64 ⌝ }
     ensures { λ r. ⌜ r ≡ leb (modulus g) x ⌝ }
 {
+    if g.width == 0 {
+        return 2147483647 <= x;
+    }
     exceeds(x, g.width)
 }
 
@@ -22,6 +27,9 @@ pub fn value_of(g: Generator, index: u64) -> u64
     requires { ⌜ refusalOf g ≡ 0 ⌝ }
     ensures { λ r. ⌜ r ≡ element g index ⌝ }
 {
+    if g.width == 0 {
+        return prime::element_at(g, index);
+    }
     linear::element_at(g, index)
 }
 
@@ -30,7 +38,21 @@ pub fn next_of(g: Generator, x: u64) -> u64
     requires { ⌜ (refusalOf g ≡ 0) × (IsElement g x) ⌝ }
     ensures { λ r. ⌜ r ≡ step g x ⌝ }
 {
+    if g.width == 0 {
+        return prime::next(g, x);
+    }
     linear::next(g, x)
+}
+
+// The only number that one step takes to y.
+pub fn previous_of(g: Generator, y: u64) -> u64
+    requires { ⌜ predecessorRefusal g y ≡ 0 ⌝ }
+    ensures { λ r. ⌜ OnlyPredecessor g y r ⌝ }
+{
+    if g.width == 0 {
+        return prime::step_back(g, y);
+    }
+    linear::step_back(g, y)
 }
 
 // The same generator with its element x for its seed.

@@ -1,9 +1,10 @@
 // A generator, and its element, predecessor and customary multiplier. Any numbers have their answer.
 ghost use mathlib.Core.Path.{_≡_};
+ghost use Prim.Native.Nat.{_≤_};
 ghost use Rattle.generator.specs.Recurrence as recurrence;
 ghost use Rattle.generator.specs.Refusals.{checkNumber, refusalOf};
 ghost use Rattle.generator.specs.Replies.{valueOf, valueReply};
-ghost use Rattle.generator.specs.Predecessor.{predecessorRefusal, PredecessorPromise};
+ghost use Rattle.generator.specs.Predecessor.{valueRefused, predecessorRefusal, PredecessorPromise};
 ghost use Rattle.generator.specs.Customary.{CustomaryPromise};
 use kinds::exceeds_modulus;
 
@@ -12,6 +13,7 @@ pub mod customary;
 pub mod kinds;
 pub mod linear;
 pub mod plain;
+pub mod prime;
 pub mod refusal_number;
 
 #[repr(C)]
@@ -56,11 +58,7 @@ pub struct ValueReply {
 pub fn checked(g: Generator) -> Check
     ensures { λ r. ⌜ checkNumber r ≡ refusalOf g ⌝ }
 {
-    let n = g.width;
-    if n == 0 {
-        return Check::Refused(Refusal::WidthOutOfRange);
-    }
-    if 64 < n {
+    if 64 < g.width {
         return Check::Refused(Refusal::WidthOutOfRange);
     }
     if exceeds_modulus(g, g.multiplier) {
@@ -70,6 +68,9 @@ pub fn checked(g: Generator) -> Check
         return Check::Refused(Refusal::OperandOutOfRange);
     }
     if exceeds_modulus(g, g.seed) {
+        return Check::Refused(Refusal::OperandOutOfRange);
+    }
+    if prime::unfit(g) {
         return Check::Refused(Refusal::OperandOutOfRange);
     }
     Check::Accepted
@@ -86,6 +87,20 @@ pub fn element(g: Generator, index: u64) -> ValueAnswer
     ValueAnswer::Value(kinds::value_of(g, index))
 }
 
+// Whether no generator of the kind yields a number.
+fn is_no_value(g: Generator, value: u64) -> bool
+    requires { ⌜ g .width ≤ 64 ⌝ }
+    ensures { λ r. ⌜ r ≡ valueRefused g value ⌝ }
+{
+    if exceeds_modulus(g, value) {
+        return true;
+    }
+    if g.width != 0 {
+        return false;
+    }
+    value == 0
+}
+
 // The conditions of the predecessor call.
 fn predecessor_checked(g: Generator, value: u64) -> Check
     ensures { λ r. ⌜ checkNumber r ≡ predecessorRefusal g value ⌝ }
@@ -94,7 +109,7 @@ fn predecessor_checked(g: Generator, value: u64) -> Check
     if let Check::Refused(_) = verdict {
         return verdict;
     }
-    if exceeds_modulus(g, value) {
+    if is_no_value(g, value) {
         return Check::Refused(Refusal::ValueOutOfRange);
     }
     if g.multiplier % 2 == 0 {
@@ -111,7 +126,7 @@ pub fn predecessor(g: Generator, value: u64) -> ValueAnswer
     if let Check::Refused(refusal) = verdict {
         return ValueAnswer::Refused(refusal);
     }
-    ValueAnswer::Value(linear::step_back(g, value))
+    ValueAnswer::Value(kinds::previous_of(g, value))
 }
 
 // The customary multiplier of a width.

@@ -55,7 +55,8 @@ unfolding gapRefusal oddRefusal period refusalOf occurs stepsOf aheadOf indexOf 
 short = refl
 
 -- 3 and 4 before 7, and 7 whatever the numbers are
-refusals : map gapRefusal (gen 65 2 0 0 ∷ gen 0 0 0 0 ∷ gen 4 16 0 0 ∷ gen 4 2 16 0 ∷ gen 4 2 0 1 ∷ gen 4 3 0 1 ∷ []) ≡ 3 ∷ 3 ∷ 4 ∷ 4 ∷ 7 ∷ 0 ∷ []
+refusals : map gapRefusal (gen 65 2 0 0 ∷ gen 0 0 0 0 ∷ gen 4 16 0 0 ∷ gen 4 2 16 0 ∷ gen 4 2 0 1 ∷ gen 4 3 0 1 ∷ gen 0 16807 0 1 ∷ [])
+    ≡ 3 ∷ 4 ∷ 4 ∷ 4 ∷ 7 ∷ 0 ∷ 0 ∷ []
 unfolding gapRefusal oddRefusal refusalOf modulus
 refusals = refl
 

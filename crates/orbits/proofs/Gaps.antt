@@ -24,7 +24,7 @@ use Rattle.generator.specs.declared.Refusal.{Refusal}
 use Rattle.generator.specs.Recurrence.{step, element}
 use Rattle.generator.specs.Refusals.{numberOf, refusalOf}
 use Rattle.generator.specs.Affine.{Linear}
-use Rattle.generator.proofs.Refusals.{cond-none, or-else-none, modulus-word, linear}
+use Rattle.generator.proofs.Refusals.{cond-none, or-else-none, modulus-word}
 use Rattle.generator.proofs.Elements.{element-next}
 use Rattle.generator.proofs.Replies.{number-suc, number-nonzero}
 use Rattle.orbits.specs.declared.GapAnswer.the-variants as answer
@@ -94,7 +94,7 @@ gap-missing g from to z n =
     orbit : IsOrbit (element g) 0 P
     orbit =
         let a = gap-accepted g z in
-        let o = odd-has-cycle (linear g (a .0)) (a .1) in rw (cycle-period (o .1)) (o .1 .orbit)
+        let o = odd-has-cycle g (a .0) (a .1) in rw (cycle-period (o .1)) (o .1 .orbit)
 
 -- the count as the machine hands it back, by its bits
 pub gap-counted : (g : Generator) (from to : ℕ) {i j last d : ℕ} {steps : ℤ} → gapRefusal g ≡ 0 →

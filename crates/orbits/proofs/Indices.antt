@@ -1,8 +1,9 @@
 -- The promise of the index call: the definition finds the least index, which is below the modulus, or the bound, where there
 -- is none.
-use mathlib.Core.Path.{_≡_}
+use mathlib.Core.Path.{_≡_, refl}
 use Prim.Native.Nat.{ℕ, _^_, _≤_}
 use native.Mathlib.Nat.{le-refl}
+use native.Mathlib.Omega.{arith}
 use borrow.Author.Tests.{lt-ltb, le-ltb}
 use Rattle.sequences.specs.Index.{Located, Absent}
 use Rattle.sequences.proofs.Indices.{located-is, located-demand, absent-is, absent-demand}
@@ -12,10 +13,12 @@ use Rattle.generator.specs.declared.Refusal.{Refusal}
 use Rattle.generator.specs.Recurrence.{modulus, element}
 use Rattle.generator.specs.Refusals.{numberOf, refusalOf}
 use Rattle.generator.specs.Affine.{Linear}
+use Rattle.generator.proofs.Refusals.{prime}
 use Rattle.generator.proofs.Replies.{number-suc, number-nonzero}
 use Rattle.orbits.specs.declared.IndexAnswer.the-variants.{At, Never, Refused}
 use Rattle.orbits.specs.Index.{replyOf, IndexPromise}
 use Rattle.orbits.proofs.Elements.{reduced}
+use Rattle.orbits.proofs.Primes.{prime-range, prime-occurs}
 
 -- A number of 2 ^ n or more is not yielded.
 pub wide-absent : {g : Generator} {y : ℕ} → Linear g → 2 ^ g .width ≤ y → Absent (element g) y
@@ -27,6 +30,7 @@ index-refused g y r e =
     record {
       equals = let k = number-suc r in rw (← e, k .1);
       meaning = λ z. absurd (number-nonzero r z);
+      prime = λ z. absurd (number-nonzero r z);
     }
 
 pub index-found : (g : Generator) (y : ℕ) {k : ℕ} → refusalOf g ≡ 0 → Located (element g) y (modulus g) k →
@@ -35,6 +39,7 @@ index-found g y {k} z h =
     record {
       equals = rw (z, located-is h, lt-ltb k (modulus g) (h .below));
       meaning = λ q. located-demand h;
+      prime = λ q w. (λ f. prime-range (prime g z w) k (h .yields), λ r. refl);
     }
 
 pub index-never : (g : Generator) (y : ℕ) → refusalOf g ≡ 0 → Absent (element g) y → IndexPromise g y (replyOf Never)
@@ -42,4 +47,6 @@ index-never g y z h =
     record {
       equals = rw (z, absent-is h (modulus g), le-ltb (modulus g) (modulus g) (le-refl _));
       meaning = λ q. absent-demand h;
+      prime =
+          λ q w. (λ f. absurd (omega arith), λ r. let o = prime-occurs (prime g z w) y r in absurd (h .none (o .0) (o .1)));
     }

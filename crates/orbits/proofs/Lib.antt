@@ -1,4 +1,5 @@
 -- The crates above cite none of these: `specs/` has what they need of an orbit.
+pub mod Primes
 pub mod Elements
 pub mod Searches
 pub mod Orbits

@@ -1,9 +1,11 @@
 -- The orbit of a linear generator: with an odd multiplier it is periodic from the start, with an even one it comes to rest.
--- Either way there is room for it below the modulus, so that the definitions find it there.
+-- Either way there is room for it below the modulus, so that the definitions find it there, as they find that of a prime-modulus
+-- model.
 use mathlib.Core.Path.{_≡_, refl, sym, ap, _∙_}
-use mathlib.Core.Logic.{⊎-elim}
+use mathlib.Core.Logic.{⊎-elim, by-cases}
 use Prim.Native.Nat.{ℕ, zero, suc, _+_, _-_, _/_, _%_, _^_, _≤_, _<_}
 use native.Mathlib.Nat.{le-of-lt, le-refl, le-trans, lt-of-lt-of-le}
+use native.Mathlib.Decide.{ℕ-discrete}
 use native.Mathlib.Omega.{arith}
 use lib.Pow.{pow-pos, pow-lt, pow-mono}
 use borrow.Author.Tests.{eq-eqb, ne-eqb}
@@ -22,13 +24,15 @@ use Rattle.generator.specs.declared.linear.Affine.{Affine}
 use Rattle.generator.specs.Recurrence.{modulus, element}
 use Rattle.generator.specs.Refusals.{numberOf, refusalOf}
 use Rattle.generator.specs.Affine.{Linear, onceOf, apply}
-use Rattle.generator.proofs.Refusals.{modulus-linear, linear}
+use Rattle.generator.specs.Prime.{Prime}
+use Rattle.generator.proofs.Refusals.{modulus-linear, linear, prime}
 use Rattle.generator.proofs.Elements.{element-start, element-follows}
 use Rattle.generator.proofs.Replies.{number-suc, number-nonzero}
-use Rattle.orbits.specs.declared.OrbitAnswer.the-variants.{Orbit, Refused}
+use Rattle.orbits.specs.declared.OrbitAnswer.the-variants.{Orbit, Period, Refused}
 use Rattle.orbits.specs.declared.kinds.Cycle.{Cycle}
-use Rattle.orbits.specs.Orbit.{exponentOf, orbitOf, OrbitPromise, IsCycle}
+use Rattle.orbits.specs.Orbit.{exponentOf, orbitReply, orbitOf, OrbitPromise, IsCycle}
 use Rattle.orbits.proofs.Elements.{reduced, isometric, one-held, scaling, contracting}
+use Rattle.orbits.proofs.Primes.{prime-orbit, prime-cycle}
 
 -- a power of two is above its exponent
 pub lt-two-pow : (n : ℕ) → n < 2 ^ n
@@ -87,30 +91,36 @@ module _ {g : Generator} (lin : Linear g) where
       IsCycle g (record { preperiod = 0; last = last })
   odd-cycle o q = record { orbit = rw q (o .1); within = omega (arith, places-room (o .0)) }
 
--- with an odd multiplier without a preperiod
-pub odd-has-cycle : {g : Generator} → Linear g → g .multiplier % 2 ≡ 1 →
+-- with an odd multiplier without a preperiod, as 16807 is
+pub odd-has-cycle : (g : Generator) → refusalOf g ≡ 0 → g .multiplier % 2 ≡ 1 →
     (last : ℕ) × IsCycle g (record { preperiod = 0; last = last })
-odd-has-cycle {g} lin p =
-    let e = exponent (element g) (g .width) in (
-      2 ^ e - 1,
-      odd-cycle lin (exponent-le (element g) (g .width), isometric-orbit (isometric lin p) (reduced lin))
-          (omega (arith, pow-pos e)),
-    )
+odd-has-cycle g z p =
+    by-cases (ℕ-discrete (g .width) 0) (λ w. (2147483645, prime-cycle (prime g z w))) (λ w. by-places (linear g z w))
+  where
+    by-places : Linear g → (last : ℕ) × IsCycle g (record { preperiod = 0; last = last })
+    by-places lin =
+        let e = exponent (element g) (g .width) in (
+          2 ^ e - 1,
+          odd-cycle lin (exponent-le (element g) (g .width), isometric-orbit (isometric lin p) (reduced lin))
+              (omega (arith, pow-pos e)),
+        )
+
+-- an even multiplier is one of the linear kind
+pub even-linear : (g : Generator) → refusalOf g ≡ 0 → g .multiplier % 2 ≡ 0 → Linear g
+even-linear g z p = linear g z (λ w. omega (arith, p, prime g z w .multiplier))
 
 -- every accepted generator has an orbit, and what the definitions find below the modulus
 pub has-cycle : (g : Generator) → refusalOf g ≡ 0 → (cycle : Cycle) × IsCycle g cycle
 has-cycle g z = ⊎-elim even odd (mod-two (g .multiplier))
   where
-    lin : Linear g
-    lin = linear g z
-
     even : g .multiplier % 2 ≡ 0 → (cycle : Cycle) × IsCycle g cycle
     even p =
+        let lin = even-linear g z p in
         let r = resting (contracting lin p) (reduced lin) in
         (record { preperiod = r .0; last = 0 }, even-cycle lin (rest-orbit (contracting lin p) (reduced lin) (r .1)))
 
     odd : g .multiplier % 2 ≡ 1 → (cycle : Cycle) × IsCycle g cycle
-    odd p = let o = odd-has-cycle lin p in (record { preperiod = 0; last = o .0 }, o .1)
+    odd p = let o = odd-has-cycle g z p in (record { preperiod = 0; last = o .0 }, o .1)
 
 module _ {g : Generator} {cycle : Cycle} (is : IsCycle g cycle) where
   pub cycle-room : cycle .preperiod + (cycle .last + 1) ≤ modulus g
@@ -130,6 +140,16 @@ exponent-is e l =
       first = λ j h. ne-eqb (2 ^ j) (2 ^ e) (λ q. omega (arith, pow-lt h));
     })
 
+-- what the reply carries, by the width
+by-exponent : {n : ℕ} → 1 ≤ n → (t P : ℕ) →
+    orbitReply 0 n t P ≡ record { refusal = 0; preperiod = t; exponent = exponentOf P; period = 0 }
+by-exponent {n = zero} l t P = absurd (omega arith)
+by-exponent {n = suc n} l t P = refl
+
+by-period : {n : ℕ} → n ≡ 0 → (t P : ℕ) → orbitReply 0 n t P ≡ record { refusal = 0; preperiod = t; exponent = 0; period = P }
+by-period {n = zero} w t P = refl
+by-period {n = suc n} w t P = absurd (omega arith)
+
 -- The promise of the call.
 pub orbit-refused : (g : Generator) (x : Refusal) → numberOf x ≡ refusalOf g → OrbitPromise g (orbitOf (Refused x))
 orbit-refused g x e =
@@ -138,30 +158,61 @@ orbit-refused g x e =
       meaning = λ z. absurd (number-nonzero x z);
       odd = λ z. absurd (number-nonzero x z);
       even = λ z. absurd (number-nonzero x z);
+      prime = λ z. absurd (number-nonzero x z);
     }
 
 pub orbit-even : (g : Generator) {t : ℕ} → refusalOf g ≡ 0 → g .multiplier % 2 ≡ 0 →
     (t ≤ g .width) × IsOrbit (element g) t 1 → OrbitPromise g (orbitOf (Orbit t 0))
 orbit-even g {t} z p o =
     record {
-      equals = rw (z, preperiod-is (o .1) room, period-is (o .1) room, exponent-is 0 (omega arith));
+      equals = rw (z, preperiod-is (o .1) room, period-is (o .1) room, by-exponent (lin .width-low) t 1, exponent-is 0 (omega arith));
       meaning = λ q. o .1;
       odd = λ q b. absurd (omega arith);
       even = λ q b. (o .0, refl);
+      prime = λ q w. absurd (omega (arith, w, lin .width-low));
     }
   where
-    room : t + 1 ≤ modulus g
-    room = even-room (linear g z) (o .0)
+    lin : Linear g
+    lin = even-linear g z p
 
-pub orbit-odd : (g : Generator) {e : ℕ} → refusalOf g ≡ 0 → g .multiplier % 2 ≡ 1 →
+    room : t + 1 ≤ modulus g
+    room = even-room lin (o .0)
+
+pub orbit-odd : (g : Generator) {e : ℕ} → refusalOf g ≡ 0 → (g .width ≡ 0 → ⊥) → g .multiplier % 2 ≡ 1 →
     (e ≤ g .width) × IsOrbit (element g) 0 (2 ^ e) → OrbitPromise g (orbitOf (Orbit 0 e))
-orbit-odd g {e} z p o =
+orbit-odd g {e} z nonzero p o =
     record {
-      equals = rw (z, preperiod-is (o .1) room, period-is (o .1) room, exponent-is e (le-trans (o .0) (linear g z .width-high)));
+      equals =
+          rw (z, preperiod-is (o .1) room, period-is (o .1) room, by-exponent (lin .width-low) 0 (2 ^ e), exponent-is e (le-trans (o .0) (lin .width-high)));
       meaning = λ q. o .1;
       odd = λ q b. refl;
       even = λ q b. absurd (omega arith);
+      prime = λ q w. absurd (nonzero w);
     }
   where
+    lin : Linear g
+    lin = linear g z nonzero
+
     room : 0 + 2 ^ e ≤ modulus g
-    room = omega (arith, places-room (linear g z) (o .0))
+    room = omega (arith, places-room lin (o .0))
+
+pub orbit-prime : (g : Generator) {P : ℕ} → refusalOf g ≡ 0 → g .width ≡ 0 →
+    (P ≡ 2147483646) × IsOrbit (element g) 0 P → OrbitPromise g (orbitOf (Period 0 P))
+orbit-prime g {P} z w o =
+    rw (o .0)
+    (record {
+      equals = rw (z, preperiod-is orbit room, period-is orbit room, by-period w 0 2147483646);
+      meaning = λ q. orbit;
+      odd = λ q b. refl;
+      even = λ q b. absurd (omega (arith, b, p .multiplier));
+      prime = λ q v. (refl, refl);
+    })
+  where
+    p : Prime g
+    p = prime g z w
+
+    orbit : IsOrbit (element g) 0 2147483646
+    orbit = prime-orbit p
+
+    room : 0 + 2147483646 ≤ modulus g
+    room = cycle-room (prime-cycle p)

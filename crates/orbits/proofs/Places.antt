@@ -110,7 +110,7 @@ places-refused g m y r e =
 
 module _ (g : Generator) (m y : ℕ) (z : placesRefusal g m ≡ 0) where
   lin : Linear g
-  lin = linear g (places-accepted g m z .0)
+  lin = let a = places-accepted g m z in linear g (a .0) (λ w. omega (arith, a .1, a .2))
 
   l : m ≤ g .width
   l = places-accepted g m z .2
@@ -172,11 +172,11 @@ module _ (g : Generator) (m y : ℕ) (z : placesRefusal g m ≡ 0) where
 -- The index call is the case of all n places.
 
 -- n places are in range
-whole-range : (g : Generator) → refusalOf g ≡ 0 → rangeRefusal g (g .width) ≡ 0
+whole-range : (g : Generator) → 1 ≤ g .width → rangeRefusal g (g .width) ≡ 0
 unfolding rangeRefusal
-whole-range g z =
+whole-range g l =
     simp (
-      ne-eqb (g .width) 0 (λ q. omega (arith, linear g z .width-low)),
+      ne-eqb (g .width) 0 (λ q. omega arith),
       le-ltb (g .width) (g .width) (le-refl _),
     )
 
@@ -193,7 +193,7 @@ reply-part bound k between = go (ltb k bound) (ltb between bound) (exponentOf (s
 
 pub index-is-places : IndexIsPlaces
 unfolding placesRefusal
-index-is-places g y reply all i p = i .equals ∙ same (refusalOf g) refl ∙ ap indexPart (sym (p .equals))
+index-is-places g y reply all l i p = i .equals ∙ same (refusalOf g) refl ∙ ap indexPart (sym (p .equals))
   where
     M : ℕ
     M = modulus g
@@ -206,6 +206,6 @@ index-is-places g y reply all i p = i .equals ∙ same (refusalOf g) refl ∙ ap
         indexReply (refusalOf g) M (indexOf (element g) M y) ≡
         indexPart (placesReply (placesRefusal g (g .width)) M k (returnOf whole M k))
     same zero e =
-        rw (e, whole-range g e, ← whole-index (reduced (linear g e)) M y)
+        rw (e, whole-range g l, ← whole-index (reduced (linear g e (λ z. omega arith))) M y)
         (let k = indexOf whole M y in reply-part M k (returnOf whole M k))
     same (suc u) e = rw e refl

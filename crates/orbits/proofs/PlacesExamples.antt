@@ -62,9 +62,14 @@ rests = refl
 -- 0 places and more than the width are 9, after 3 and 4
 refusals : placesRefusal (gen 4 5 3 1) 0 ∷ placesRefusal (gen 4 5 3 1) 5 ∷ placesRefusal (gen 4 5 3 1) 4 ∷ placesRefusal (gen 65 5 3 1) 0
     ∷ placesRefusal (gen 0 0 0 0) 0 ∷ placesRefusal (gen 4 16 3 1) 5 ∷ placesRefusal (gen 4 2 0 1) 5 ∷ []
-    ≡ 9 ∷ 9 ∷ 0 ∷ 3 ∷ 3 ∷ 4 ∷ 9 ∷ []
+    ≡ 9 ∷ 9 ∷ 0 ∷ 3 ∷ 4 ∷ 4 ∷ 9 ∷ []
 unfolding placesRefusal rangeRefusal refusalOf modulus
 refusals = refl
+
+-- at width 0 every number of places is 9
+none-at-width-0 : map (placesRefusal (gen 0 16807 0 1)) (0 ∷ 1 ∷ 31 ∷ 64 ∷ []) ≡ 9 ∷ 9 ∷ 9 ∷ 9 ∷ []
+unfolding placesRefusal rangeRefusal refusalOf modulus
+none-at-width-0 = refl
 
 refused : reply (gen 4 2 0 1) 5 1 ≡ refusedReply 9
 unfolding placesRefusal rangeRefusal refusalOf modulus

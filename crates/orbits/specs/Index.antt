@@ -1,7 +1,8 @@
--- The least index of a generator that yields a number, or never (SCOPE 3.3).
+-- The least index of a generator that yields a number, or never (SCOPE 3.3; document 02, note 5).
 use mathlib.Core.Path.{_≡_}
 use mathlib.Core.Bool.{cond}
-use Prim.Native.Nat.{ℕ, zero, suc}
+use mathlib.Core.Logic.{_↔_}
+use Prim.Native.Nat.{ℕ, zero, suc, _≤_}
 use lib.Dec.{ltb}
 use Rattle.sequences.specs.Index.{indexOf, Demand3, Located, Absent}
 use Rattle.generator.specs.declared.Generator.{Generator}
@@ -26,10 +27,12 @@ replyOf (answer.At k) = record { refusal = 0; found = 1; index = k }
 replyOf answer.Never = record { refusal = 0; found = 0; index = 0 }
 replyOf (answer.Refused r) = record { refusal = numberOf r; found = 0; index = 0 }
 
--- The promise of the call: the reply is the definition's, and an accepted one meets demand 3.
+-- The promise of the call: the reply is the definition's, and an accepted one meets demand 3; at width 0 the numbers from 1 to
+-- 2147483646 are found, and no others.
 pub record IndexPromise (g : Generator) (y : ℕ) (reply : IndexReply) : Type 0 where
   pub equals : reply ≡ indexReply (refusalOf g) (modulus g) (indexOf (element g) (modulus g) y)
   pub meaning : reply .refusal ≡ 0 → Demand3 (element g) y (reply .found) (reply .index)
+  pub prime : reply .refusal ≡ 0 → g .width ≡ 0 → (reply .found ≡ 1) ↔ ((1 ≤ y) × (y ≤ 2147483646))
 
 -- For the functions behind the call: where y stands, with the bound below which its index lies.
 abbrev pub PositionIs : (ℕ → ℕ) → ℕ → ℕ → Position → Type 0

@@ -20,7 +20,7 @@ use Rattle.orbits.specs.declared.kinds.Occurrences.the-variants as occur
 use Rattle.orbits.specs.Orbit.{exponentOf}
 use Rattle.orbits.specs.Index.{IndexPromise}
 
--- 9: no places, or more than the width has.
+-- 9: no places, or more than the width has; at width 0 every number of them.
 unfoldable pub rangeRefusal : Generator → ℕ → ℕ
 rangeRefusal g m = cond (eqb m 0 || ltb (g .width) m) 9 0
 
@@ -82,14 +82,14 @@ pub record PlacesPromise (g : Generator) (m y : ℕ) (reply : PlacesReply) : Typ
       AllIndices (low m (element g)) y (reply .found) (reply .index) (reply .recurs) (2 ^ reply .exponent)
   pub goes-on : reply .found ≡ 1 → GoesOn g m reply
 
--- The index call is the case of all n places: whatever the two calls reply, the refusal, found and the index are the same.
--- `index-is-places` in proofs/ is the proof.
+-- The index call is the case of all n places, at every width from 1 on: whatever the two calls reply, the refusal, found and the
+-- index are the same. `index-is-places` in proofs/ is the proof.
 abbrev pub indexPart : PlacesReply → IndexReply
 indexPart reply = record { refusal = reply .refusal; found = reply .found; index = reply .index }
 
 abbrev pub IndexIsPlaces : Type 0
 IndexIsPlaces =
-    (g : Generator) (y : ℕ) (reply : IndexReply) (all : PlacesReply) → IndexPromise g y reply →
+    (g : Generator) (y : ℕ) (reply : IndexReply) (all : PlacesReply) → 1 ≤ g .width → IndexPromise g y reply →
     PlacesPromise g (g .width) y all → reply ≡ indexPart all
 
 -- For the functions behind the call: the indices at which the elements' low m places are y.

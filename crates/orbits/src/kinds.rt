@@ -9,6 +9,7 @@ ghost use Rattle.orbits.specs.Index.{PositionIs};
 ghost use Rattle.orbits.specs.Orbit.{IsCycle};
 ghost use Rattle.orbits.specs.Places.{OccurrencesIs};
 use crate::linear;
+use crate::prime;
 use generator::Generator;
 
 // Where a number stands in a sequence.
@@ -41,6 +42,9 @@ pub fn position_of(g: Generator, y: u64) -> Position
     requires { ⌜ refusalOf g ≡ 0 ⌝ }
     ensures { λ r. ⌜ PositionIs (element g) y (modulus g) r ⌝ }
 {
+    if g.width == 0 {
+        return prime::position(g, y);
+    }
     linear::position(g, y)
 }
 
@@ -49,6 +53,9 @@ pub fn cycle_of(g: Generator) -> Cycle
     requires { ⌜ refusalOf g ≡ 0 ⌝ }
     ensures { λ r. ⌜ IsCycle g r ⌝ }
 {
+    if g.width == 0 {
+        return prime::cycle(g);
+    }
     linear::cycle(g)
 }
 
@@ -57,6 +64,9 @@ pub fn sighting_of(g: Generator, y: u64) -> Sighting
     requires { ⌜ (refusalOf g ≡ 0) × (g .multiplier % 2 ≡ 1) ⌝ }
     ensures { λ r. ⌜ SightingIs g y r ⌝ }
 {
+    if g.width == 0 {
+        return prime::sighting(g, y);
+    }
     linear::sighting(g, y)
 }
 

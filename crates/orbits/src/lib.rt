@@ -1,5 +1,6 @@
 // The orbit of a generator, the least index of a number, and all indices of a number in the low places, for every generator;
-// and for odd multipliers the steps between two numbers. No search makes more than n + 1 rounds, n the width.
+// and for odd multipliers the steps between two numbers. No search makes more than n + 1 rounds, n the width, and at width 0
+// none looks at more than the 536 roots of unity.
 ghost use mathlib.Core.Path.{_≡_};
 ghost use Rattle.generator.specs.Refusals.{checkNumber};
 ghost use Rattle.orbits.specs.Orbit.{OrbitPromise, orbitOf};
@@ -18,11 +19,14 @@ use kinds::Sighting;
 pub mod kinds;
 pub mod linear;
 pub mod plain;
+pub mod prime;
 pub mod search;
 pub mod turns;
 
+// The period is given by its exponent of 2, or itself.
 pub enum OrbitAnswer {
     Orbit { preperiod: u64, exponent: u64 },
+    Period { preperiod: u64, period: u64 },
     Refused(Refusal),
 }
 
@@ -45,12 +49,14 @@ pub enum PlacesAnswer {
     Refused(Refusal),
 }
 
-// The same in plain numbers: the refusal's number, 0 for none, and zeros beside a refusal.
+// The same in plain numbers: the refusal's number, 0 for none, and zeros beside a refusal. Where period is 0 it is 2^exponent,
+// otherwise it is the period itself, and exponent is 0.
 #[repr(C)]
 pub struct OrbitReply {
     pub refusal: u64,
     pub preperiod: u64,
     pub exponent: u64,
+    pub period: u64,
 }
 
 // found is 0 for never.
@@ -86,6 +92,12 @@ pub fn orbit(g: Generator) -> OrbitAnswer
     let verdict = checked(g);
     if let Check::Refused(refusal) = verdict {
         return OrbitAnswer::Refused(refusal);
+    }
+    if g.width == 0 {
+        return OrbitAnswer::Period {
+            preperiod: 0,
+            period: prime::period(g),
+        };
     }
     if g.multiplier % 2 == 0 {
         return OrbitAnswer::Orbit {

@@ -25,11 +25,19 @@ pub fn of_orbit(answer: OrbitAnswer) -> OrbitReply
             refusal: 0,
             preperiod,
             exponent,
+            period: 0,
+        },
+        OrbitAnswer::Period { preperiod, period } => OrbitReply {
+            refusal: 0,
+            preperiod,
+            exponent: 0,
+            period,
         },
         OrbitAnswer::Refused(refusal) => OrbitReply {
             refusal: number(refusal),
             preperiod: 0,
             exponent: 0,
+            period: 0,
         },
     }
 }

@@ -95,7 +95,7 @@ fn orbit(n: &[u64]) -> Reply {
         return Reply::Unreadable;
     }
     let r = of_orbit(orbits::orbit(generator_of(n)));
-    Reply::Three(r.refusal, r.preperiod, r.exponent)
+    Reply::Four(r.refusal, r.preperiod, r.exponent, r.period)
 }
 
 fn predecessor(n: &[u64]) -> Reply {

@@ -17,6 +17,14 @@ pub const PLACES_OUT_OF_RANGE: u64 = 9;
 
 pub const ARCHIVE_LIMIT: usize = 65_536;
 
+/// The period of a reply as a number.
+pub fn period_of(reply: OrbitReply) -> u128 {
+    match reply.period {
+        0 => 1 << reply.exponent,
+        period => period.into(),
+    }
+}
+
 /// The bytes of a run's line, by Rust's own formatting.
 pub fn line_of(run: &Run) -> Vec<u8> {
     let numbers: [u64; 6] = (*run).into();

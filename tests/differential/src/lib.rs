@@ -4,6 +4,7 @@ pub mod calls;
 pub mod formula;
 pub mod model;
 pub mod peers;
+pub mod prime;
 pub mod random;
 pub mod same_method;
 pub mod samples;

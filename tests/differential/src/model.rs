@@ -1,11 +1,11 @@
-//! Every call of the header once more, independently: sequences by stepping where that is short
-//! and by formula elsewhere, lines by splitting the bytes.
+//! Every call of the header once more, independently: sequences by stepping where that is short and by
+//! formula elsewhere, at width 0 by powers and baby steps, lines by splitting the bytes.
 
 use std::collections::HashSet;
 
 use crate::calls::*;
-use crate::formula;
 use crate::trail::{low, step, Trail};
+use crate::{formula, prime};
 
 /// Up to this width odd multipliers are stepped through; even ones always are.
 const STEPPED_WIDTH: u64 = 8;
@@ -14,36 +14,58 @@ fn is_odd(number: u64) -> bool {
     number % 2 == 1
 }
 
-fn is_stepped(g: Generator) -> bool {
-    g.width <= STEPPED_WIDTH || !is_odd(g.multiplier)
+/// How the sequence of an accepted generator is found.
+enum Method {
+    Prime,
+    Stepping,
+    Formula,
+}
+
+fn method(g: Generator) -> Method {
+    if g.width == 0 {
+        Method::Prime
+    } else if g.width <= STEPPED_WIDTH || !is_odd(g.multiplier) {
+        Method::Stepping
+    } else {
+        Method::Formula
+    }
+}
+
+/// The elements, if they are stepped through.
+fn trail(g: Generator) -> Option<Trail> {
+    matches!(method(g), Method::Stepping).then(|| Trail::of(g))
 }
 
 // The sequence of an accepted generator.
 
 pub fn element_of(g: Generator, index: u64) -> u64 {
-    if is_stepped(g) {
-        Trail::of(g).element(index)
-    } else {
-        formula::element(g, index)
+    match method(g) {
+        Method::Prime => prime::element(g, index),
+        Method::Stepping => Trail::of(g).element(index),
+        Method::Formula => formula::element(g, index),
     }
 }
 
-fn orbit_of(g: Generator) -> (u64, u64) {
-    if is_stepped(g) {
-        let trail = Trail::of(g);
-        (trail.preperiod(), trail.exponent())
-    } else {
-        (0, formula::exponent(g))
+/// The preperiod, and the period as an exponent or, at width 0, itself, the other of the two 0.
+fn orbit_of(g: Generator) -> (u64, u64, u64) {
+    match method(g) {
+        Method::Prime => (0, 0, prime::PERIOD),
+        Method::Stepping => {
+            let trail = Trail::of(g);
+            (trail.preperiod(), trail.exponent(), 0)
+        }
+        Method::Formula => (0, formula::exponent(g), 0),
     }
 }
 
 fn index_of(g: Generator, number: u64) -> Option<u64> {
-    if !fits(number, g.width) {
-        None
-    } else if is_stepped(g) {
-        Trail::of(g).index(number)
-    } else {
-        formula::index(g, number)
+    if !is_of_width(g, number) {
+        return None;
+    }
+    match method(g) {
+        Method::Prime => prime::index(g, number),
+        Method::Stepping => Trail::of(g).index(number),
+        Method::Formula => formula::index(g, number),
     }
 }
 
@@ -59,14 +81,14 @@ fn low_bits(g: Generator, places: u64) -> Generator {
 fn occurrences_of(g: Generator, places: u64, number: u64) -> Option<(u64, Option<u64>)> {
     let low = low_bits(g, places);
     let index = index_of(low, number)?;
-    let (preperiod, exponent) = orbit_of(low);
+    let (preperiod, exponent, _) = orbit_of(low);
     Some((index, (index >= preperiod).then_some(exponent)))
 }
 
 /// How many steps lead from one number to another, both on the orbit of an odd multiplier.
 fn steps_between(g: Generator, from: u64, to: u64) -> Option<u64> {
-    if !is_stepped(g) {
-        return formula::index(Generator { seed: from, ..g }, to);
+    if !matches!(method(g), Method::Stepping) {
+        return index_of(Generator { seed: from, ..g }, to);
     }
     let (mut x, mut count) = (from, 0);
     while x != to {
@@ -86,11 +108,9 @@ fn gap_of(g: Generator, from: u64, to: u64) -> Option<i64> {
 /// How many different numbers the run shows. Behind as many positions as a trail has elements nothing
 /// is new; of a sequence that is not stepped through every element is in its period.
 fn variety_of(run: Run) -> u64 {
-    let g = run.generator;
-    if !is_stepped(g) {
-        return (1u128 << formula::exponent(g)).min(run.count.into()) as u64;
-    }
-    let trail = Trail::of(g);
+    let Some(trail) = trail(run.generator) else {
+        return period_of(orbit(run.generator)).min(run.count.into()) as u64;
+    };
     let positions = 0..run.count.min(trail.size());
     let shown: HashSet<u64> = positions.map(|position| trail.element(run.first + position)).collect();
     shown.len() as u64
@@ -108,10 +128,27 @@ fn fits(number: u64, width: u64) -> bool {
     (number as u128) < 1 << width
 }
 
+/// Whether the number is one of those that a generator of this width may yield.
+fn is_of_width(g: Generator, number: u64) -> bool {
+    if g.width == 0 {
+        prime::yields(number)
+    } else {
+        fits(number, g.width)
+    }
+}
+
+fn operands_fit(g: Generator) -> bool {
+    if g.width == 0 {
+        prime::accepts(g)
+    } else {
+        [g.multiplier, g.increment, g.seed].iter().all(|&operand| fits(operand, g.width))
+    }
+}
+
 fn generator_refusal(g: Generator) -> u64 {
-    if !(1..=64).contains(&g.width) {
+    if g.width > 64 {
         WIDTH_OUT_OF_RANGE
-    } else if ![g.multiplier, g.increment, g.seed].iter().all(|&operand| fits(operand, g.width)) {
+    } else if !operands_fit(g) {
         OPERAND_OUT_OF_RANGE
     } else {
         0
@@ -136,8 +173,8 @@ pub fn element(g: Generator, index: u64) -> Value {
 
 pub fn orbit(g: Generator) -> OrbitReply {
     let refusal = generator_refusal(g);
-    let (preperiod, exponent) = if refusal == 0 { orbit_of(g) } else { (0, 0) };
-    OrbitReply { refusal, preperiod, exponent }
+    let (preperiod, exponent, period) = if refusal == 0 { orbit_of(g) } else { (0, 0, 0) };
+    OrbitReply { refusal, preperiod, exponent, period }
 }
 
 pub fn index(g: Generator, number: u64) -> IndexReply {
@@ -198,8 +235,9 @@ pub fn gap(g: Generator, from: u64, to: u64) -> GapReply {
 
 pub fn predecessor(g: Generator, number: u64) -> Value {
     let refusal = match generator_refusal(g) {
-        0 if !fits(number, g.width) => VALUE_OUT_OF_RANGE,
+        0 if !is_of_width(g, number) => VALUE_OUT_OF_RANGE,
         0 if !is_odd(g.multiplier) => NOT_INVERTIBLE,
+        0 if g.width == 0 => return Value { refusal: 0, value: prime::predecessor(number) },
         refusal => refusal,
     };
     if refusal != 0 {
@@ -247,13 +285,12 @@ pub fn remake(run: Run, position: u64, values: &mut [u64]) -> Value {
     if refusal != 0 {
         return Value { refusal, value: 0 };
     }
-    let trail = is_stepped(run.generator).then(|| Trail::of(run.generator));
+    let trail = trail(run.generator);
     let mut count = 0;
     for (value, p) in values.iter_mut().zip(position..run.count) {
         let index = run.first + p;
-        *value = trail
-            .as_ref()
-            .map_or_else(|| formula::element(run.generator, index), |trail| trail.element(index));
+        *value =
+            trail.as_ref().map_or_else(|| element_of(run.generator, index), |trail| trail.element(index));
         count += 1;
     }
     Value { refusal: 0, value: count }
@@ -359,7 +396,7 @@ mod tests {
             "P" => value(predecessor(g, n[4])),
             "O" => {
                 let r = orbit(g);
-                vec![r.refusal, r.preperiod, r.exponent]
+                vec![r.refusal, r.preperiod, r.exponent, r.period]
             }
             "I" => {
                 let r = index(g, n[4]);
@@ -454,13 +491,23 @@ mod tests {
         }
     }
 
+    /// Every sixteenth of width 0.
+    fn any_generator(r: &mut Random) -> Generator {
+        if r.one_in(16) {
+            samples::prime_generator(r)
+        } else {
+            samples::generator(r)
+        }
+    }
+
     /// The last position that is counted shows what none before it does, and those tried behind it what a
     /// counted one does.
     #[test]
     fn variety_agrees_with_its_definition() {
         let mut r = Random::new(5);
         for _ in 0..100_000 {
-            let run = samples::run(&mut r);
+            let generator = any_generator(&mut r);
+            let run = samples::run(&mut r, generator);
             let Value { refusal, value } = variety(run);
             if refusal != 0 {
                 continue;
@@ -504,14 +551,14 @@ mod tests {
     fn gap_agrees_with_its_definition() {
         let mut r = Random::new(3);
         for _ in 0..100_000 {
-            let g = samples::generator(&mut r);
+            let g = any_generator(&mut r);
             let (from, to) = samples::two_numbers(&mut r, g);
             let GapReply { refusal, found, steps } = gap(g, from, to);
             if refusal != 0 {
                 continue;
             }
             assert_eq!(found, index(g, from).found & index(g, to).found, "{from}, {to} in {g:?}");
-            let (period, twice) = (1i128 << orbit(g).exponent, 2 * i128::from(steps));
+            let (period, twice) = (period_of(orbit(g)) as i128, 2 * i128::from(steps));
             assert!(-period <= twice && twice < period, "{steps} from {from} to {to} in {g:?}");
             let (start, end) = if steps < 0 { (to, from) } else { (from, to) };
             let reached = element_of(Generator { seed: start, ..g }, steps.unsigned_abs());

@@ -1,7 +1,10 @@
 //! The library's own methods in plain Rust, to measure it against: jumps from the lowest bit of the
-//! index up, the search up the bit places, lines in one pass.
+//! index up, the search up the bit places, lines in one pass; and at width 0 what `prime` has.
 
 use crate::calls::*;
+use crate::prime::PERIOD;
+
+mod prime;
 
 /// The map of some number of steps: times `factor`, plus `summand`, modulo 2^64.
 #[derive(Clone, Copy)]
@@ -64,7 +67,10 @@ fn mask(width: u64) -> u64 {
 }
 
 fn generator_refusal(g: Generator) -> u64 {
-    if g.width == 0 || g.width > 64 {
+    if g.width == 0 {
+        return if prime::accepts(g) { 0 } else { OPERAND_OUT_OF_RANGE };
+    }
+    if g.width > 64 {
         return WIDTH_OUT_OF_RANGE;
     }
     let top = mask(g.width);
@@ -83,6 +89,9 @@ fn run_refusal(run: Run) -> u64 {
 }
 
 fn element_of(g: Generator, index: u64) -> u64 {
+    if g.width == 0 {
+        return prime::element(g.seed, index);
+    }
     steps(Map::step(g), index).apply(g.seed) & mask(g.width)
 }
 
@@ -128,7 +137,9 @@ fn index_by_steps(g: Generator, number: u64) -> Option<u64> {
 }
 
 fn index_of(g: Generator, number: u64) -> Option<u64> {
-    if number > mask(g.width) {
+    if g.width == 0 {
+        prime::index(g.seed, number)
+    } else if number > mask(g.width) {
         None
     } else if g.multiplier % 2 == 1 {
         index_up_the_places(g, number).map(|(index, _)| index)
@@ -161,8 +172,17 @@ fn index_and_period(g: Generator, number: u64) -> Option<(u64, u64)> {
     index_up_the_places(g, number)
 }
 
+fn prime_gap_of(g: Generator, from: u64, to: u64) -> Option<i64> {
+    let (start, end) = (prime::index(g.seed, from)?, prime::index(g.seed, to)?);
+    let forward = if start <= end { end - start } else { end + PERIOD - start };
+    Some(if forward < PERIOD / 2 { forward as i64 } else { forward as i64 - PERIOD as i64 })
+}
+
 /// For an odd multiplier, from the indices of both numbers.
 fn gap_of(g: Generator, from: u64, to: u64) -> Option<i64> {
+    if g.width == 0 {
+        return prime_gap_of(g, from, to);
+    }
     if from > mask(g.width) || to > mask(g.width) {
         return None;
     }
@@ -176,6 +196,9 @@ fn gap_of(g: Generator, from: u64, to: u64) -> Option<i64> {
 /// The preperiod and the period less 1. With an even multiplier neighbours first differ a number of
 /// places higher at each step, until all places agree.
 fn cycle_of(g: Generator) -> (u64, u64) {
+    if g.width == 0 {
+        return (0, PERIOD - 1);
+    }
     if g.multiplier % 2 == 1 {
         let period = index_up_the_places(g, g.seed).map_or(1, |(_, period)| period);
         return (0, period.wrapping_sub(1));
@@ -201,6 +224,50 @@ pub fn element(g: Generator, index: u64) -> Value {
         0 => Value { refusal: 0, value: element_of(g, index) },
         refusal => Value { refusal, value: 0 },
     }
+}
+
+/// A period of 2^64, whose last index is 2^64 − 1, has 64 one bits there.
+#[inline(never)]
+pub fn orbit(g: Generator) -> OrbitReply {
+    let refusal = generator_refusal(g);
+    if refusal != 0 {
+        return OrbitReply { refusal, ..OrbitReply::default() };
+    }
+    match (cycle_of(g), g.width) {
+        ((preperiod, last), 0) => OrbitReply { preperiod, period: last + 1, ..OrbitReply::default() },
+        ((preperiod, last), _) => {
+            OrbitReply { preperiod, exponent: last.count_ones().into(), ..OrbitReply::default() }
+        }
+    }
+}
+
+/// The inverse of an odd number modulo 2^64, by Newton's steps: it inverts itself in two places, and each
+/// step doubles these.
+fn inverse(odd: u64) -> u64 {
+    (0..5).fold(odd, |x, _| x.wrapping_mul(2u64.wrapping_sub(odd.wrapping_mul(x))))
+}
+
+fn predecessor_of(g: Generator, number: u64) -> u64 {
+    if g.width == 0 {
+        return prime::previous(number);
+    }
+    inverse(g.multiplier).wrapping_mul(number.wrapping_sub(g.increment)) & mask(g.width)
+}
+
+#[inline(never)]
+pub fn predecessor(g: Generator, number: u64) -> Value {
+    let refusal = generator_refusal(g);
+    if refusal != 0 {
+        return Value { refusal, value: 0 };
+    }
+    let fits = if g.width == 0 { prime::yields(number) } else { number <= mask(g.width) };
+    if !fits {
+        return Value { refusal: VALUE_OUT_OF_RANGE, value: 0 };
+    }
+    if g.multiplier & 1 == 0 {
+        return Value { refusal: NOT_INVERTIBLE, value: 0 };
+    }
+    Value { refusal: 0, value: predecessor_of(g, number) }
 }
 
 #[inline(never)]
@@ -250,13 +317,23 @@ pub fn remake(run: Run, position: u64, values: &mut [u64]) -> Value {
         return Value { refusal, value: 0 };
     }
     let count = left.min(values.len() as u64);
-    let (one, top) = (Map::step(run.generator), mask(run.generator.width));
-    let mut x = element_of(run.generator, run.first + position);
-    for value in &mut values[..count as usize] {
-        *value = x;
-        x = one.apply(x) & top;
+    let (g, values) = (run.generator, &mut values[..count as usize]);
+    let x = element_of(g, run.first + position);
+    if g.width == 0 {
+        fill(values, x, prime::next);
+    } else {
+        let (one, top) = (Map::step(g), mask(g.width));
+        fill(values, x, |x| one.apply(x) & top);
     }
     Value { refusal: 0, value: count }
+}
+
+/// Stepping from x on.
+fn fill(values: &mut [u64], mut x: u64, step: impl Fn(u64) -> u64) {
+    for value in values {
+        *value = x;
+        x = step(x);
+    }
 }
 
 fn digits(number: u64) -> usize {
@@ -363,5 +440,55 @@ pub fn lookup(archive: &[u8], number: u64) -> LookupReply {
     match found {
         Ok(place) => place.unwrap_or_default(),
         Err((refusal, line)) => LookupReply { refusal, line, ..LookupReply::default() },
+    }
+}
+
+#[cfg(test)]
+mod tests {
+    use super::*;
+    use crate::random::Random;
+    use crate::{model, samples};
+
+    fn agrees_on(r: &mut Random, g: Generator) {
+        let (number, (from, to)) = (samples::number(r, g), samples::two_numbers(r, g));
+        let (index, (places, low)) = (samples::index(r), samples::places_and_number(r, g));
+        assert_eq!(element(g, index), model::element(g, index), "{index} in {g:?}");
+        assert_eq!(orbit(g), model::orbit(g), "{g:?}");
+        assert_eq!(self::index(g, number), model::index(g, number), "{number} in {g:?}");
+        assert_eq!(
+            index_places(g, places, low),
+            model::index_places(g, places, low),
+            "{places}, {low} in {g:?}"
+        );
+        assert_eq!(gap(g, from, to), model::gap(g, from, to), "{from}, {to} in {g:?}");
+        assert_eq!(predecessor(g, number), model::predecessor(g, number), "{number} in {g:?}");
+        let run = samples::run(r, g);
+        assert_eq!(variety(run), model::variety(run), "{run:?}");
+        let (position, mut ours, mut theirs) = (samples::position(r, run), [7; 9], [7; 9]);
+        let replies = (remake(run, position, &mut ours), model::remake(run, position, &mut theirs));
+        assert_eq!((replies.0, ours), (replies.1, theirs), "{position} in {run:?}");
+    }
+
+    #[test]
+    fn same_method_agrees_with_the_model() {
+        let mut r = Random::new(8);
+        for make in [samples::generator, samples::prime_generator] {
+            for _ in 0..20_000 {
+                let g = make(&mut r);
+                agrees_on(&mut r, g);
+            }
+        }
+    }
+
+    #[test]
+    fn lookup_agrees_with_the_model() {
+        let mut r = Random::new(9);
+        for _ in 0..1000 {
+            let archive = samples::archive(&mut r, samples::mixed_run, 8);
+            for number in archive.numbers {
+                let (ours, theirs) = (lookup(&archive.bytes, number), model::lookup(&archive.bytes, number));
+                assert_eq!(ours, theirs, "{number} in {}", archive.bytes.escape_ascii());
+            }
+        }
     }
 }

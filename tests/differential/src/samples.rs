@@ -2,10 +2,11 @@
 //! lines and archives of both sorts.
 
 use crate::calls::*;
-use crate::model;
 use crate::random::Random;
+use crate::{model, prime};
 
-const REFUSED_WIDTHS: [u64; 6] = [0, 65, 66, 128, 1 << 32, u64::MAX];
+/// Widths that refuse the operands of another: 0, which takes others, and those that are too large.
+const OTHER_WIDTHS: [u64; 6] = [0, 65, 66, 128, 1 << 32, u64::MAX];
 
 /// The lowest `width` bits set.
 fn top(width: u64) -> u64 {
@@ -47,7 +48,7 @@ pub fn accepted_generator(r: &mut Random, width: u64) -> Generator {
 fn spoiled_generator(r: &mut Random, g: Generator) -> Generator {
     let above = top(g.width).saturating_add(1 + r.pick(&[0, 0, 1, u64::MAX - 1]));
     match r.below(6) {
-        0 => Generator { width: r.pick(&REFUSED_WIDTHS), ..g },
+        0 => Generator { width: r.pick(&OTHER_WIDTHS), ..g },
         1 => Generator { width: r.below(g.width), ..g },
         2 => Generator { multiplier: above, ..g },
         3 => Generator { increment: above, ..g },
@@ -66,6 +67,35 @@ pub fn generator(r: &mut Random) -> Generator {
     }
 }
 
+fn accepted_prime_generator(r: &mut Random) -> Generator {
+    let any = 1 + r.below(prime::PERIOD);
+    prime::generator(r.pick(&[any, any, any, any, 1, 2, prime::MULTIPLIER, prime::PERIOD]))
+}
+
+/// The same with an operand that is refused, or by chance not.
+fn spoiled_prime_generator(r: &mut Random, g: Generator) -> Generator {
+    let multipliers =
+        [0, 1, prime::MULTIPLIER - 1, prime::MULTIPLIER + 1, prime::MULTIPLIER + (1 << 32), r.any()];
+    let increments = [1, prime::MODULUS, 1 << 32, u64::MAX, r.any()];
+    let seeds = [0, prime::MODULUS, prime::MODULUS + 1, g.seed + prime::MODULUS, g.seed + (1 << 32), r.any()];
+    match r.below(4) {
+        0 => Generator { width: r.pick(&OTHER_WIDTHS), ..g },
+        1 => Generator { multiplier: r.pick(&multipliers), ..g },
+        2 => Generator { increment: r.pick(&increments), ..g },
+        _ => Generator { seed: r.pick(&seeds), ..g },
+    }
+}
+
+/// Of width 0.
+pub fn prime_generator(r: &mut Random) -> Generator {
+    let g = accepted_prime_generator(r);
+    if r.one_in(16) {
+        spoiled_prime_generator(r, g)
+    } else {
+        g
+    }
+}
+
 pub fn index(r: &mut Random) -> u64 {
     let choices = [r.word(), r.any(), r.any(), r.below(100), u64::MAX - r.below(100)];
     r.pick(&choices)
@@ -75,7 +105,10 @@ pub fn index(r: &mut Random) -> u64 {
 pub fn number(r: &mut Random, g: Generator) -> u64 {
     let i = index(r);
     let shown = model::element(g, i).value;
-    let near = shown ^ 1 << r.below(g.width.clamp(1, 64));
+    let near = match g.width {
+        0 => r.pick(&[0, prime::PERIOD, prime::MODULUS, prime::MODULUS + 1, shown + prime::MODULUS]),
+        width => shown ^ 1 << r.below(width.min(64)),
+    };
     let choices = [shown, shown, shown, near, shown ^ 1 << r.below(64), r.any()];
     r.pick(&choices)
 }
@@ -105,7 +138,7 @@ pub fn two_numbers(r: &mut Random, g: Generator) -> (u64, u64) {
         return (number(r, g), number(r, g));
     }
     let (i, near) = (index(r), r.below(5).wrapping_sub(2));
-    let half = (1u128 << model::orbit(g).exponent >> 1) as u64;
+    let half = (period_of(model::orbit(g)) / 2) as u64;
     let apart = [near, half.wrapping_add(near), half, r.any(), r.word()];
     let j = i.wrapping_add(r.pick(&apart));
     (model::element(g, i).value, model::element(g, j).value)
@@ -119,8 +152,8 @@ fn accepted_run(r: &mut Random, generator: Generator) -> Run {
     Run { generator, first, count: r.pick(&counts).min(longest) }
 }
 
-pub fn run(r: &mut Random) -> Run {
-    let generator = generator(r);
+/// A run of the generator.
+pub fn run(r: &mut Random, generator: Generator) -> Run {
     let run = accepted_run(r, generator);
     match r.below(32) {
         0 => Run { count: 0, ..run },
@@ -202,9 +235,9 @@ fn damaged_line(r: &mut Random, line: Vec<u8>) -> Vec<u8> {
     }
 }
 
-/// The bytes of a line, often damaged.
-pub fn line(r: &mut Random) -> Vec<u8> {
-    let line = line_of(&run(r));
+/// The bytes of a run's line, often damaged.
+pub fn line(r: &mut Random, run: Run) -> Vec<u8> {
+    let line = line_of(&run);
     if r.one_in(2) {
         damaged_line(r, line)
     } else {
@@ -220,10 +253,23 @@ pub struct Archive {
     pub numbers: Vec<u64>,
 }
 
-fn archive_run(r: &mut Random) -> Run {
+/// Makes the runs of an archive.
+pub type MakeRun = fn(&mut Random) -> Run;
+
+/// Of widths 1 to 64.
+pub fn linear_run(r: &mut Random) -> Run {
     let widths = [1 + r.below(64), 1 + r.below(8)];
     let width = r.pick(&widths);
     let g = accepted_generator(r, width);
+    accepted_run(r, g)
+}
+
+/// Every second one of width 0.
+pub fn mixed_run(r: &mut Random) -> Run {
+    if r.one_in(2) {
+        return linear_run(r);
+    }
+    let g = accepted_prime_generator(r);
     accepted_run(r, g)
 }
 
@@ -240,9 +286,9 @@ fn numbers_for(r: &mut Random, runs: &[Run], count: usize) -> Vec<u64> {
 }
 
 /// Up to 40 lines, one time in four with a damaged one.
-pub fn archive(r: &mut Random, numbers: usize) -> Archive {
+pub fn archive(r: &mut Random, make_run: MakeRun, numbers: usize) -> Archive {
     let most = r.below(41);
-    let runs: Vec<Run> = (0..r.below(most + 1)).map(|_| archive_run(r)).collect();
+    let runs: Vec<Run> = (0..r.below(most + 1)).map(|_| make_run(r)).collect();
     let numbers = numbers_for(r, &runs, numbers);
     let mut lines: Vec<Vec<u8>> = runs.iter().map(line_of).collect();
     if !lines.is_empty() && r.one_in(4) {
@@ -265,14 +311,14 @@ fn run_of_length(length: usize) -> Run {
 }
 
 /// An archive of exactly this length, all of whose lines are accepted.
-pub fn archive_of_length(r: &mut Random, length: usize, numbers: usize) -> Archive {
+pub fn archive_of_length(r: &mut Random, make_run: MakeRun, length: usize, numbers: usize) -> Archive {
     let mut bytes = Vec::with_capacity(length);
     let mut runs = Vec::new();
     while bytes.len() < length {
         let run = match length - bytes.len() {
             left @ 0..=85 => run_of_length(left),
             left @ 86..=191 => run_of_length((left / 2).min(85)),
-            _ => archive_run(r),
+            _ => make_run(r),
         };
         bytes.extend(line_of(&run));
         runs.push(run);

@@ -1,7 +1,7 @@
 -- `generator::predecessor` meets its contract.
 use borrow.Author.Needs.{needs}
 use Rattle.generator.proofs.Replies.{number-accepted, number-refused}
-use Rattle.generator.proofs.StepBack.{invertible, predecessor-refused, predecessor-given}
+use Rattle.generator.proofs.StepBack.{predecessor-refused, predecessor-given}
 use Rattle.generator.proofs.predecessor.Statement.{statement}
 use Rattle.generator.proofs.predecessor.Tie as tie
 
@@ -20,15 +20,15 @@ returns c =
 enum-told : tie.Need-enum-told
 enum-told c = search needs
 
-step-back-requires : tie.Need-step-back-requires
-step-back-requires c κs =
-    invertible _ _ (number-accepted (c .before .before .predecessor-checked .ensures) (c .enum-told .given .1))
+previous-of-requires : tie.Need-previous-of-requires
+previous-of-requires c κs =
+    number-accepted (c .before .before .predecessor-checked .ensures) (c .enum-told .given .1)
 
 returns-2 : tie.Need-returns-2
 returns-2 c =
     predecessor-given _ _
     (number-accepted (c .before .before .before .predecessor-checked .ensures) (c .before .enum-told .given .1))
-    (c .step-back .ensures)
+    (c .previous-of .ensures)
 
 pub predecessor-spec : {M : Type 1} → statement M
 predecessor-spec =
@@ -38,5 +38,5 @@ predecessor-spec =
     enum-known-verdict
     returns
     enum-told
-    step-back-requires
+    previous-of-requires
     returns-2)

@@ -26,22 +26,22 @@ enum-told-2 c = search needs
 none-so-far : (c : tie.After-enum-told2) → refusalOf (c .before .before .before .args .g) ≡ 0
 none-so-far c = number-accepted (c .before .before .checked .ensures) (c .enum-told2 .given .1)
 
-exceeds-modulus-requires : tie.Need-exceeds-modulus-requires
-exceeds-modulus-requires c κs = let v = accepted _ (none-so-far c) in (v .width-low, v .width-high)
+is-no-value-requires : tie.Need-is-no-value-requires
+is-no-value-requires c κs = accepted _ (none-so-far c) .width-high
 
 returns-2 : tie.Need-returns-2
 unfolding predecessorRefusal
-returns-2 c = simp (none-so-far (c .before .before), sym (c .before .exceeds-modulus .ensures) ∙ c .if1 .taken)
+returns-2 c = simp (none-so-far (c .before .before), sym (c .before .is-no-value .ensures) ∙ c .if1 .taken)
 
 returns-3 : tie.Need-returns-3
 unfolding predecessorRefusal
 returns-3 c =
-    simp (none-so-far (c .before .before .before .before), sym (c .before .before .before .exceeds-modulus .ensures) ∙ c .before .before .if1 .left, eq-eqb _ _ (c .if2 .taken))
+    simp (none-so-far (c .before .before .before .before), sym (c .before .before .before .is-no-value .ensures) ∙ c .before .before .if1 .left, eq-eqb _ _ (c .if2 .taken))
 
 returns-4 : tie.Need-returns-4
 unfolding predecessorRefusal
 returns-4 c =
-    simp (none-so-far (c .before .before .before .before), sym (c .before .before .before .exceeds-modulus .ensures) ∙ c .before .before .if1 .left, ne-eqb _ _ (c .if2 .left))
+    simp (none-so-far (c .before .before .before .before), sym (c .before .before .before .is-no-value .ensures) ∙ c .before .before .if1 .left, ne-eqb _ _ (c .if2 .left))
 
 pub predecessor-checked-spec : {M : Type 1} → statement M
 predecessor-checked-spec =
@@ -51,7 +51,7 @@ predecessor-checked-spec =
     enum-told
     returns
     enum-told-2
-    exceeds-modulus-requires
+    is-no-value-requires
     returns-2
     returns-3
     returns-4)

@@ -6,7 +6,8 @@
 //! Both sides get the same inputs in turn, round by round; a ratio is the median over the rounds.
 //! Buffers are not cleared first. With `--plain` there are no headings, tabs between the fields and
 //! more digits; with ROWS only the rows that begin with this text, as `lookup` or `index, distance`.
-//! Without the feature `index-places` the rows of that call are left out.
+//! Without the feature `index-places` the rows of that call are left out, without `prime-modulus` those of
+//! width 0.
 
 use std::env;
 use std::fmt::Display;
@@ -93,6 +94,8 @@ impl Output {
 
 // Inputs.
 
+type Make<T> = fn(&mut Random) -> T;
+
 fn several<T>(make: impl FnMut(usize) -> T) -> Vec<T> {
     (0..INPUTS).map(make).collect()
 }
@@ -130,12 +133,12 @@ fn wide_run(r: &mut Random) -> Run {
     Run { generator: wide_generator(r), first: r.word() / 2, count: 1 + r.below(1000) }
 }
 
-/// Lines of wide runs, as many as fit, and the last run.
-fn archive(r: &mut Random, length: usize) -> (Vec<u8>, Run) {
-    let mut last = wide_run(r);
+/// Lines of runs, as many as fit, and the last run.
+fn archive(r: &mut Random, make_run: Make<Run>, length: usize) -> (Vec<u8>, Run) {
+    let mut last = make_run(r);
     let mut bytes = line_of(&last);
     loop {
-        let run = wide_run(r);
+        let run = make_run(r);
         let line = line_of(&run);
         if bytes.len() + line.len() > length {
             return (bytes, last);
@@ -230,12 +233,17 @@ fn calls(out: &Output, r: &mut Random) {
         let long = |_| Run { count: count as u64, ..wide_run(r) };
         out.row("remake", name, || remake(&(0..4).map(long).collect::<Vec<_>>(), count));
     }
-    let (bytes, last) = archive(r, ARCHIVE_LIMIT);
+    lookups(out, r, (wide_run, Random::word), "bytes");
+}
+
+/// In an archive as long as may be, of runs and for a number that are made so.
+fn lookups(out: &Output, r: &mut Random, (make_run, make_number): (Make<Run>, Make<u64>), bytes_of: &str) {
+    let (bytes, last) = archive(r, make_run, ARCHIVE_LIMIT);
     let shown = same_method::element(last.generator, last.first).value;
     let size = bytes.len();
     let found_last = [(bytes.clone(), shown)];
-    out.row("lookup", format!("{size} bytes, found in the last line"), || lookup(&found_last));
-    out.row("lookup", format!("{size} bytes, none"), || lookup(&[(bytes, r.word())]));
+    out.row("lookup", format!("{size} {bytes_of}, found in the last line"), || lookup(&found_last));
+    out.row("lookup", format!("{size} {bytes_of}, none"), || lookup(&[(bytes, make_number(r))]));
 }
 
 fn peers_way(out: &Output, r: &mut Random) {
@@ -278,7 +286,7 @@ fn growth(out: &Output, r: &mut Random) {
     }
     for length in [1 << 10, 1 << 12, 1 << 14, ARCHIVE_LIMIT] {
         out.row("lookup", format!("up to {length} bytes, none"), || {
-            let one = |_| (archive(r, length).0, r.word());
+            let one = |_| (archive(r, wide_run, length).0, r.word());
             lookup(&(0..ARCHIVE_LIMIT / length).map(one).collect::<Vec<_>>())
         });
     }
@@ -377,6 +385,45 @@ mod places {
     }
 }
 
+/// The rows of width 0. They have random numbers of their own as well.
+#[cfg(feature = "prime-modulus")]
+mod prime_modulus {
+    use super::*;
+    use noonpasture_differential::prime::{self, PERIOD};
+
+    fn a_number(r: &mut Random) -> u64 {
+        1 + r.below(PERIOD)
+    }
+
+    fn a_generator(r: &mut Random) -> Generator {
+        prime::generator(a_number(r))
+    }
+
+    fn a_run(r: &mut Random) -> Run {
+        Run { generator: a_generator(r), first: r.word() / 2, count: 1 + r.below(1000) }
+    }
+
+    fn predecessor(inputs: &[(Generator, u64)]) -> Timing {
+        measured(inputs, |(g, y)| library::predecessor(g, y), |(g, y)| same_method::predecessor(g, y))
+    }
+
+    fn orbit(inputs: &[Generator]) -> Timing {
+        measured(inputs, library::orbit, same_method::orbit)
+    }
+
+    pub fn rows(out: &Output) {
+        let r = &mut Random::new(SEED + 3);
+        out.heading("width 0", "Rust");
+        let any_index = several(|_| (a_generator(r), r.word()));
+        out.row("element", "width 0, any index", || element(&any_index));
+        let numbers = several(|_| (a_generator(r), a_number(r)));
+        out.row("index", "width 0, found", || index(&numbers));
+        out.row("predecessor", "width 0", || predecessor(&numbers));
+        out.row("orbit", "width 0", || orbit(&several(|_| a_generator(r))));
+        lookups(out, r, (a_run, a_number), "bytes of width 0");
+    }
+}
+
 fn main() {
     let (flags, words): (Vec<_>, Vec<_>) = env::args().skip(1).partition(|word| word == "--plain");
     let out = Output { plain: !flags.is_empty(), rows: words.join(" ") };
@@ -388,4 +435,6 @@ fn main() {
     varieties(&out);
     #[cfg(feature = "index-places")]
     places::rows(&out);
+    #[cfg(feature = "prime-modulus")]
+    prime_modulus::rows(&out);
 }

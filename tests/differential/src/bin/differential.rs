@@ -1,6 +1,6 @@
 //! Compares every call of the proved library with the model: on all generators of widths 1 to 5 and all
 //! their low bits, at widths 1 to 4 on all short runs for the variety and all pairs of numbers for the
-//! gap, and on random calls, accepted and refused.
+//! gap, at width 0 on every digit of the index by itself, and on random calls, accepted and refused.
 //! Ends with status 1 at the first difference.
 //!
 //!     cargo run --release --bin differential
@@ -12,11 +12,14 @@ use std::time::Instant;
 
 use noonpasture_differential::calls::*;
 use noonpasture_differential::random::Random;
-use noonpasture_differential::{library, model, samples};
+use noonpasture_differential::samples::MakeRun;
+use noonpasture_differential::{library, model, prime, samples};
 
 /// The work is halved between two threads, each with random numbers of its own.
 const SHARES: u64 = 2;
 const RANDOM_CALLS: u64 = 1_000_000;
+/// At width 0, where the model's index takes long.
+const PRIME_CALLS: u64 = 100_000;
 const SEED: u64 = 20_260_101;
 
 #[derive(Clone, Copy)]
@@ -206,8 +209,11 @@ impl Tally {
     }
 
     fn index(&mut self, g: Generator, number: u64) {
-        let (library, model) = (library::index(g, number), model::index(g, number));
-        self.compare(Kind::Index, &(g, number), library, model);
+        self.index_is(g, number, model::index(g, number));
+    }
+
+    fn index_is(&mut self, g: Generator, number: u64, wanted: IndexReply) {
+        self.compare(Kind::Index, &(g, number), library::index(g, number), wanted);
     }
 
     fn index_places(&mut self, g: Generator, places: u64, number: u64) {
@@ -218,7 +224,7 @@ impl Tally {
     fn index_places_is(&mut self, g: Generator, places: u64, number: u64, wanted: PlacesReply) {
         let reply = library::index_places(g, places, number);
         self.compare(Kind::IndexPlaces, &(g, places, number), reply, wanted);
-        if places == g.width {
+        if places == g.width && places != 0 {
             let PlacesReply { refusal, found, index, .. } = reply;
             let first = IndexReply { refusal, found, index };
             self.compare(Kind::IndexOfAllPlaces, &(g, number), first, library::index(g, number));
@@ -397,23 +403,26 @@ fn all_short_runs(share: u64) -> Tally {
     tally
 }
 
-/// Even multipliers, and those of chosen periods: runs that start about the preperiod and whose count
-/// is near how many numbers they have; refused where it goes too far, and then cut to the indices there
-/// are.
+/// Runs that start about the preperiod and whose count is near how many numbers they have; refused where
+/// it goes too far, and then cut to the indices there are.
+fn varieties_of(tally: &mut Tally, generator: Generator) {
+    let orbit = model::orbit(generator);
+    for first in (0..=orbit.preperiod + 1).chain([1 << 32, 1 << 63, u64::MAX - 1]) {
+        let new = u128::from(orbit.preperiod.saturating_sub(first)) + period_of(orbit);
+        let counts = [1, new - 1, new, new + 1, 1 << 40, 1 << 63, u64::MAX.into()];
+        for count in counts.map(|count| count.min(u64::MAX.into()) as u64) {
+            tally.variety(Run { generator, first, count });
+            tally.variety(Run { generator, first, count: count.min(u64::MAX - first) });
+        }
+    }
+}
+
+/// Of even multipliers, and those of chosen periods.
 fn chosen_varieties() -> Tally {
     let mut tally = Tally::default();
     let odd = PERIODS.iter().map(|(_, numbers)| *numbers);
     for [width, multiplier, increment, seed] in odd.chain(EVEN) {
-        let generator = Generator { width, multiplier, increment, seed };
-        let OrbitReply { preperiod, exponent, .. } = model::orbit(generator);
-        for first in (0..=preperiod + 1).chain([1 << 32, 1 << 63, u64::MAX - 1]) {
-            let new = u128::from(preperiod.saturating_sub(first)) + (1 << exponent);
-            let counts = [1, new - 1, new, new + 1, 1 << 40, 1 << 63, u64::MAX.into()];
-            for count in counts.map(|count| count.min(u64::MAX.into()) as u64) {
-                tally.variety(Run { generator, first, count });
-                tally.variety(Run { generator, first, count: count.min(u64::MAX - first) });
-            }
-        }
+        varieties_of(&mut tally, Generator { width, multiplier, increment, seed });
     }
     tally
 }
@@ -446,54 +455,179 @@ const PERIODS: [(u64, [u64; 4]); 12] = [
 ];
 
 /// Between elements about the start, a quarter, the half and the end of the period, and numbers near them.
+fn gaps_of(tally: &mut Tally, g: Generator) {
+    let period = period_of(model::orbit(g));
+    let mut numbers = vec![0, u64::MAX];
+    for place in [0, period / 4, period / 2, period] {
+        for index in (0..5).map(|near| (place as u64).wrapping_add(near).wrapping_sub(2)) {
+            let shown = model::element(g, index).value;
+            numbers.extend([shown, shown ^ 1, shown ^ 1 << g.width.saturating_sub(1), shown ^ 1 << 63]);
+        }
+    }
+    tally.gaps(g, &numbers);
+}
+
 fn chosen_periods() -> Tally {
     let mut tally = Tally::default();
     for (exponent, [width, multiplier, increment, seed]) in PERIODS {
         let g = Generator { width, multiplier, increment, seed };
         assert_eq!(model::orbit(g).exponent, exponent, "{g:?}");
-        let period = 1u128 << exponent;
-        let mut numbers = vec![0, u64::MAX];
-        for place in [0, period / 4, period / 2, period] {
-            for index in (0..5).map(|near| (place as u64).wrapping_add(near).wrapping_sub(2)) {
-                let shown = model::element(g, index).value;
-                numbers.extend([shown, shown ^ 1, shown ^ 1 << (width - 1), shown ^ 1 << 63]);
-            }
+        gaps_of(&mut tally, g);
+    }
+    tally
+}
+
+// Width 0: the digits by which the library finds an index, chosen calls, and numbers made from their
+// indices.
+
+const PRIME_SEEDS: [u64; 5] = [1, 2, prime::MULTIPLIER, 1_043_618_065, prime::PERIOD];
+
+/// Every remainder modulo each factor of the period beside zeros; and each of the eight digits, two in base
+/// 3 for the factor 9, at 0 or at its largest.
+fn chosen_remainders() -> Vec<[u64; 7]> {
+    let mut chosen = Vec::new();
+    for (place, factor) in prime::FACTORS.into_iter().enumerate() {
+        chosen.extend(
+            (0..factor).map(|remainder| std::array::from_fn(|at| remainder * u64::from(at == place))),
+        );
+    }
+    for largest in 0..1 << 8 {
+        let mut remainders: [u64; 7] =
+            std::array::from_fn(|at| (prime::FACTORS[at] - 1) * (largest >> at & 1));
+        remainders[1] = 2 * (largest >> 1 & 1) + 6 * (largest >> 7);
+        chosen.push(remainders);
+    }
+    chosen
+}
+
+/// The library has to find the index from which the number is made.
+fn index_of_element(tally: &mut Tally, g: Generator, index: u64) {
+    tally.index_is(g, prime::element(g, index), IndexReply { refusal: 0, found: 1, index });
+}
+
+fn prime_digits() -> Tally {
+    let mut tally = Tally::default();
+    for remainders in chosen_remainders() {
+        let index = prime::index_with(remainders);
+        for g in PRIME_SEEDS.map(prime::generator) {
+            index_of_element(&mut tally, g, index);
+            tally.index(g, prime::element(g, index));
         }
-        tally.gaps(g, &numbers);
+    }
+    tally
+}
+
+/// Multipliers, increments and seeds, of which one is just outside of what is accepted, or none is.
+const PRIME_OPERANDS: [[u64; 3]; 13] = [
+    [16_807, 0, 1],
+    [16_807, 0, prime::PERIOD],
+    [16_807, 0, 0],
+    [16_807, 0, prime::MODULUS],
+    [16_807, 0, prime::MODULUS + 1],
+    [16_807, 0, (1 << 32) + 1],
+    [16_807, 0, u64::MAX],
+    [16_807, 1, 1],
+    [16_807, u64::MAX, 1],
+    [16_806, 0, 1],
+    [16_808, 0, 1],
+    [16_807 + (1 << 32), 0, 1],
+    [0, 0, 0],
+];
+
+/// Every call, with what would be refused by itself and without.
+fn every_call_on(tally: &mut Tally, g: Generator) {
+    tally.orbit(g);
+    for index in [0, 1, 2, prime::PERIOD - 1, prime::PERIOD, prime::PERIOD + 1, 1 << 32, 1 << 63, u64::MAX] {
+        tally.element(g, index);
+    }
+    for number in [0, 1, 2, prime::PERIOD, prime::MODULUS, prime::MODULUS + 1, 1 << 32, u64::MAX] {
+        tally.index(g, number);
+        tally.predecessor(g, number);
+        tally.gaps(g, &[number, 1, g.seed]);
+        for places in [0, 1, 31, 64, 65] {
+            tally.index_places(g, places, number);
+        }
+    }
+    for (first, count) in [(0, 0), (0, 1), (prime::PERIOD - 3, 9), (u64::MAX - 1, 1), (u64::MAX, 1)] {
+        let run = Run { generator: g, first, count };
+        tally.variety(run);
+        tally.write_line(run, [7; 160], 0);
+        tally.write_line(run, [7; 160], 160);
+        tally.remake(run, count / 2, [7; 20], 19);
+        tally.read_line(&line_of(&run));
+        tally.lookup(&[b"0,16807,0,2,0,5\n".to_vec(), line_of(&run)].concat(), 1);
+    }
+}
+
+fn chosen_prime_calls() -> Tally {
+    let mut tally = Tally::default();
+    for [multiplier, increment, seed] in PRIME_OPERANDS {
+        for width in [0, 65] {
+            every_call_on(&mut tally, Generator { width, multiplier, increment, seed });
+        }
+    }
+    for g in PRIME_SEEDS.map(prime::generator) {
+        every_call_on(&mut tally, g);
+        varieties_of(&mut tally, g);
+        gaps_of(&mut tally, g);
+        (0..2).for_each(|near| index_of_element(&mut tally, g, near));
+        (1..3).for_each(|near| index_of_element(&mut tally, g, prime::PERIOD - near));
+    }
+    tally.customary_multiplier(0);
+    tally
+}
+
+fn random_prime_indices(share: u64) -> Tally {
+    let mut tally = Tally::default();
+    let mut r = Random::new(SEED + 2 * SHARES + share);
+    for _ in 0..RANDOM_CALLS / SHARES {
+        let g = prime::generator(1 + r.below(prime::PERIOD));
+        index_of_element(&mut tally, g, r.below(prime::PERIOD));
+        tally.element(g, r.word());
+        tally.predecessor(g, 1 + r.below(prime::PERIOD));
     }
     tally
 }
 
 // Random calls.
 
-fn random_generators(r: &mut Random, tally: &mut Tally, calls: u64) {
+/// Makes the generators of random calls.
+type Make = fn(&mut Random) -> Generator;
+
+fn a_run(r: &mut Random, make: Make) -> Run {
+    let generator = make(r);
+    samples::run(r, generator)
+}
+
+fn random_generators(r: &mut Random, tally: &mut Tally, make: Make, calls: u64) {
     for _ in 0..calls {
-        let g = samples::generator(r);
+        let g = make(r);
         tally.element(g, samples::index(r));
         tally.orbit(g);
         tally.index(g, samples::number(r, g));
         tally.predecessor(g, samples::number(r, g));
-        tally.variety(samples::run(r));
+        tally.variety(a_run(r, make));
         let widths = [r.below(70), r.any()];
         tally.customary_multiplier(r.pick(&widths));
     }
 }
 
-fn random_lines(r: &mut Random, tally: &mut Tally, calls: u64) {
+fn random_lines(r: &mut Random, tally: &mut Tally, make: Make, calls: u64) {
     for call in 0..calls {
-        let run = samples::run(r);
+        let run = a_run(r, make);
         let exact = line_of(&run).len();
         let lengths = [call as usize % 131, exact, exact - 1];
         let filling = r.word().to_le_bytes();
         let before = std::array::from_fn(|at| filling[at % 8] ^ at as u8);
         tally.write_line(run, before, r.pick(&lengths));
-        tally.read_line(&samples::line(r));
+        let run = a_run(r, make);
+        tally.read_line(&samples::line(r, run));
     }
 }
 
-fn random_remakes(r: &mut Random, tally: &mut Tally, calls: u64) {
+fn random_remakes(r: &mut Random, tally: &mut Tally, make: Make, calls: u64) {
     for call in 0..calls {
-        let run = samples::run(r);
+        let run = a_run(r, make);
         let filling = r.word();
         let before = std::array::from_fn(|at| filling ^ at as u64);
         let lengths = [0, 1, call as usize % 17];
@@ -501,17 +635,17 @@ fn random_remakes(r: &mut Random, tally: &mut Tally, calls: u64) {
     }
 }
 
-fn random_gaps(r: &mut Random, tally: &mut Tally, calls: u64) {
+fn random_gaps(r: &mut Random, tally: &mut Tally, make: Make, calls: u64) {
     for _ in 0..calls {
-        let g = samples::generator(r);
+        let g = make(r);
         let (from, to) = samples::two_numbers(r, g);
         tally.gap(g, from, to);
     }
 }
 
-fn random_places(r: &mut Random, tally: &mut Tally, calls: u64) {
+fn random_places(r: &mut Random, tally: &mut Tally, make: Make, calls: u64) {
     for _ in 0..calls {
-        let g = samples::generator(r);
+        let g = make(r);
         let (places, number) = samples::places_and_number(r, g);
         tally.index_places(g, places, number);
     }
@@ -525,36 +659,45 @@ fn on_archive(r: &mut Random, tally: &mut Tally, archive: &samples::Archive) {
     }
 }
 
-fn random_archives(r: &mut Random, tally: &mut Tally, calls: u64) {
+fn random_archives(r: &mut Random, tally: &mut Tally, make_run: MakeRun, calls: u64) {
     const NUMBERS: usize = 8;
     for _ in 0..calls / NUMBERS as u64 {
-        let archive = samples::archive(r, NUMBERS);
+        let archive = samples::archive(r, make_run, NUMBERS);
         on_archive(r, tally, &archive);
     }
 }
 
 /// Archives about as long as they may be: whole, and with one byte damaged.
-fn long_archives(r: &mut Random, tally: &mut Tally) {
+fn long_archives(r: &mut Random, tally: &mut Tally, make_run: MakeRun) {
     for length in ARCHIVE_LIMIT - 8..ARCHIVE_LIMIT + 8 {
-        let mut archive = samples::archive_of_length(r, length, 8);
+        let mut archive = samples::archive_of_length(r, make_run, length, 8);
         on_archive(r, tally, &archive);
         archive.bytes = samples::damaged(r, archive.bytes);
         on_archive(r, tally, &archive);
     }
 }
 
-fn random_calls(share: u64) -> Tally {
+/// So many calls of each kind.
+fn random_calls_on(mut r: Random, make: Make, make_run: MakeRun, calls: u64) -> Tally {
     let mut tally = Tally::default();
-    let mut r = Random::new(SEED + share);
-    let calls = RANDOM_CALLS / SHARES;
-    random_generators(&mut r, &mut tally, calls);
-    random_lines(&mut r, &mut tally, calls);
-    random_archives(&mut r, &mut tally, calls);
-    long_archives(&mut r, &mut tally);
-    random_remakes(&mut r, &mut tally, calls);
-    random_gaps(&mut r, &mut tally, calls);
-    random_places(&mut r, &mut tally, calls);
+    random_generators(&mut r, &mut tally, make, calls);
+    random_lines(&mut r, &mut tally, make, calls);
+    random_archives(&mut r, &mut tally, make_run, calls);
+    long_archives(&mut r, &mut tally, make_run);
+    random_remakes(&mut r, &mut tally, make, calls);
+    random_gaps(&mut r, &mut tally, make, calls);
+    random_places(&mut r, &mut tally, make, calls);
     tally
+}
+
+fn random_calls(share: u64) -> Tally {
+    let r = Random::new(SEED + share);
+    random_calls_on(r, samples::generator, samples::linear_run, RANDOM_CALLS / SHARES)
+}
+
+fn random_prime_calls(share: u64) -> Tally {
+    let r = Random::new(SEED + SHARES + share);
+    random_calls_on(r, samples::prime_generator, samples::mixed_run, PRIME_CALLS / SHARES)
 }
 
 /// The sum of all shares, each counted by a thread.
@@ -577,5 +720,9 @@ fn main() {
     shared(all_pairs).print("all pairs, widths 1 to 4");
     chosen_periods().print("periods of 1, 2, 2^63 and 2^64");
     shared(random_calls).print("random calls");
+    prime_digits().print("width 0, digits of the index");
+    chosen_prime_calls().print("width 0, chosen calls");
+    shared(random_prime_indices).print("width 0, numbers from their indices");
+    shared(random_prime_calls).print("width 0, random calls");
     println!("\nno difference, {} seconds", start.elapsed().as_secs());
 }

@@ -1,19 +1,26 @@
--- `generator::kinds::exceeds_modulus` meets its contract: the modulus of the linear kind is 2 ^ width.
-use borrow.Author.Needs.{needs}
+-- `generator::kinds::exceeds_modulus` meets its contract: the modulus of each kind.
 use mathlib.Core.Path.{sym, ap, _∙_}
 use Prim.Native.Nat.{ℕ}
+use native.Mathlib.Omega.{arith}
 use lib.Dec.{leb}
-use Rattle.generator.proofs.Refusals.{modulus-linear}
+use Rattle.generator.proofs.Refusals.{modulus-linear, modulus-prime}
+use borrow.Author.Needs.{needs}
 use Rattle.generator.proofs.kinds.exceeds_modulus.Statement.{statement}
 use Rattle.generator.proofs.kinds.exceeds_modulus.Tie as tie
+
+returns : tie.Need-returns
+returns c =
+    let a = c .before .before .args in
+    ap (λ (m : ℕ). leb m (a .x)) (sym (modulus-prime (a .g) (c .if1 .taken)))
 
 exceeds-requires : tie.Need-exceeds-requires
 exceeds-requires c κs = search needs
 
-returns : tie.Need-returns
-returns c =
+returns-2 : tie.Need-returns-2
+returns-2 c =
+    let a = c .before .before .before .args in
     c .exceeds .ensures
-    ∙ ap (λ (m : ℕ). leb m (c .before .args .x)) (sym (modulus-linear (c .before .args .g) (c .before .pre .0)))
+    ∙ ap (λ (m : ℕ). leb m (a .x)) (sym (modulus-linear (a .g) (omega (arith, c .before .if1 .left))))
 
 pub exceeds-modulus-spec : {M : Type 1} → statement M
-exceeds-modulus-spec = tie.close (tie.spec exceeds-requires returns)
+exceeds-modulus-spec = tie.close (tie.spec returns exceeds-requires returns-2)

@@ -9,6 +9,9 @@ enum-known-answer c = search needs
 enum-known-answer-2 : tie.Need-enum-known-answer-2
 enum-known-answer-2 c = search needs
 
+enum-known-answer-3 : tie.Need-enum-known-answer-3
+enum-known-answer-3 c = search needs
+
 number-requires : tie.Need-number-requires
 number-requires c κs = search needs
 
@@ -16,8 +19,19 @@ returns : tie.Need-returns
 returns c = rw (c .before .answer .given .1)
 
 returns-2 : tie.Need-returns-2
-returns-2 c = rw (c .number .ensures, c .before .before .answer2 .given .1)
+returns-2 c = rw (c .before .answer2 .given .1)
+
+returns-3 : tie.Need-returns-3
+returns-3 c = rw (c .number .ensures, c .before .before .answer3 .given .1)
 
 pub of-orbit-spec : {M : Type 1} → statement M
 of-orbit-spec =
-    tie.close (tie.spec enum-known-answer enum-known-answer-2 number-requires returns returns-2)
+    tie.close
+    (tie.spec
+    enum-known-answer
+    enum-known-answer-2
+    enum-known-answer-3
+    number-requires
+    returns
+    returns-2
+    returns-3)

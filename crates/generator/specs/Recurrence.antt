@@ -1,4 +1,4 @@
--- The generator of documents 01 and 02, by its recurrence (SCOPE 2.1, 2.2, 2.6).
+-- The generator of documents 01 and 02, by its recurrence (SCOPE 2.1, 2.2, 2.7).
 use Prim.Native.Nat.{ℕ, zero, suc, _+_, _*_, _%_, _^_}
 use Rattle.generator.specs.declared.Generator.{Generator}
 

@@ -79,8 +79,8 @@ np_index_reply  np_index(np_generator g, uint64_t value);
 /* The least index at which the element's lowest `places` bits (the element modulo 2^places) are the
  * value (found 1), or never (found 0); a value of 2^places or more is never. With recurs 0 no other
  * index has them, and exponent is 0; with recurs 1 exactly the indices index + t * 2^exponent, t from
- * 0 on, have them, and exponent is 0 to 64. With places = width, found and index are those of
- * np_index. Refusals 3, 4, 9, the last for every number of places at width 0. */
+ * 0 on, have them, and exponent is 0 to 64. With places = width, from 1 on, found and index are those
+ * of np_index. Refusals 3, 4, 9, the last for every number of places at width 0. */
 np_places_reply np_index_places(np_generator g, uint64_t places, uint64_t value);
 
 /* The steps from one number of the sequence to another (found 1), or never (found 0) if either of

@@ -578,8 +578,9 @@ def prime_generators(more):
 
 
 def prime_elements():
-    """The first ones in a row; of more seeds about the period's end, the last ones, and any."""
-    for i in range(40):
+    """The first ones in a row, and element 10,000, which Park and Miller published; of more seeds about
+    the period's end, the last ones, and any."""
+    for i in (*range(40), 10000):
         yield "E", (*prime(1), i)
     for g in prime_generators(8):
         yield "O", g

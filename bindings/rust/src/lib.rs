@@ -206,7 +206,7 @@ pub fn index(g: Generator, value: u64) -> Result<Index, Refusal> {
 
 /// The least index at which the element's lowest `places` bits (the element modulo 2^`places`) are the
 /// value, and whether that recurs; or never, as for every value of 2^`places` or more. With `places` =
-/// `width` the least index is that of [`index`]. At width 0 every number of places is refused.
+/// `width`, from 1 on, the least index is that of [`index`]. At width 0 every number of places is refused.
 ///
 /// ```
 /// use noonpasture::{index, index_places, Generator, Index, Occurrences, Refusal};

@@ -49,7 +49,7 @@ prime-multiplies {g} p =
 pub prime-element : {g : Generator} → Prime g → (i : ℕ) → element g i ≡ along (g .seed) i
 prime-element {g} p i = multiplied (prime-multiplies p) i ∙ ap (λ (s : ℕ). along s i) (element-start g)
 
-pub element-at-zero : (g : Generator) → refusalOf g ≡ 0 → g .width ≡ 0 → (i : ℕ) → 1 ≤ element g i
+element-at-zero : (g : Generator) → refusalOf g ≡ 0 → g .width ≡ 0 → (i : ℕ) → 1 ≤ element g i
 element-at-zero g e z = element-low (prime-multiplies (prime g e z))
 
 pub prime-below : {g : Generator} {x : ℕ} → refusalOf g ≡ 0 → g .width ≡ 0 → IsElement g x → x < 2147483647

@@ -25,11 +25,11 @@ widest : element (gen 64 18446744073709551615 1 5) 1 ≡ 18446744073709551612
 unfolding element step modulus
 widest = refl
 
--- accepted; 3 for widths 65 and 2^64 - 1; 4 for an operand of 2^n; 3 before 4
+-- accepted; 3 for widths 65 and 2^64 - 1; 4 for an operand of 2^n; 3 before 4, for an operand of 2^65
 refusals :
     map refusalOf
     (gen 64 0 0 0 ∷ gen 1 0 0 0 ∷ gen 65 0 0 0 ∷ gen 18446744073709551615 0 0 0 ∷ gen 4 15 15 15
-    ∷ gen 4 16 0 0 ∷ gen 4 0 16 0 ∷ gen 4 0 0 16 ∷ gen 65 9 9 9 ∷ [])
+    ∷ gen 4 16 0 0 ∷ gen 4 0 16 0 ∷ gen 4 0 0 16 ∷ gen 65 36893488147419103232 0 0 ∷ [])
     ≡ 0 ∷ 0 ∷ 3 ∷ 3 ∷ 0 ∷ 4 ∷ 4 ∷ 4 ∷ 3 ∷ []
 unfolding refusalOf modulus
 refusals = refl

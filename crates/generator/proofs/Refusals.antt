@@ -108,7 +108,7 @@ accepted-none g a =
         simp (eq-eqb _ _ z, eq-eqb _ _ (at .0), eq-eqb _ _ (at .1), ne-eqb (g .seed) 0 (λ q. omega (arith, at .2))))
         (λ d. simp (ne-eqb _ _ d))
 
--- at width 0 with the right multiplier and increment it is for the seed
+-- at width 0, with the right multiplier and increment, the seed decides
 pub seed-decides : (g : Generator) → g .width ≡ 0 → g .multiplier ≡ 16807 → g .increment ≡ 0 → eqb (g .seed) 0 ≡ primeRefused g
 seed-decides g w a c = rw (eq-eqb _ _ w, eq-eqb _ _ a, eq-eqb _ _ c)
 

@@ -1,10 +1,11 @@
-// One door to the kinds of generator, for the crates above: a generator has to be accepted, and nothing else is asked of it.
+// One door to the kinds of generator. For the crates above are `value_of`, `next_of` and `restarted`: a generator has to be
+// accepted, and nothing else is asked of it. The others are for the calls of this crate.
 ghost use mathlib.Core.Path.{_≡_};
 ghost use Prim.Native.Nat.{_≤_};
 ghost use lib.Dec.{leb};
 ghost use Rattle.generator.specs.Recurrence.{modulus, element, step};
 ghost use Rattle.generator.specs.Refusals.{refusalOf};
-ghost use Rattle.generator.specs.Predecessor.{predecessorRefusal, OnlyPredecessor};
+ghost use Rattle.generator.specs.Predecessor.{valueRefused, predecessorRefusal, OnlyPredecessor};
 ghost use Rattle.generator.specs.Kinds.{IsElement, Restarted};
 use crate::Generator;
 use crate::linear;
@@ -20,6 +21,20 @@ pub fn exceeds_modulus(g: Generator, x: u64) -> bool
         return 2147483647 <= x;
     }
     exceeds(x, g.width)
+}
+
+// Whether no generator of this width yields a number.
+pub fn is_no_value(g: Generator, value: u64) -> bool
+    requires { ⌜ g .width ≤ 64 ⌝ }
+    ensures { λ r. ⌜ r ≡ valueRefused g value ⌝ }
+{
+    if exceeds_modulus(g, value) {
+        return true;
+    }
+    if g.width != 0 {
+        return false;
+    }
+    value == 0
 }
 
 // The element at an index.

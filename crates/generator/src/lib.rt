@@ -1,12 +1,12 @@
 // A generator, and its element, predecessor and customary multiplier. Any numbers have their answer.
 ghost use mathlib.Core.Path.{_≡_};
-ghost use Prim.Native.Nat.{_≤_};
 ghost use Rattle.generator.specs.Recurrence as recurrence;
 ghost use Rattle.generator.specs.Refusals.{checkNumber, refusalOf};
 ghost use Rattle.generator.specs.Replies.{valueOf, valueReply};
-ghost use Rattle.generator.specs.Predecessor.{valueRefused, predecessorRefusal, PredecessorPromise};
+ghost use Rattle.generator.specs.Predecessor.{predecessorRefusal, PredecessorPromise};
 ghost use Rattle.generator.specs.Customary.{CustomaryPromise};
 use kinds::exceeds_modulus;
+use kinds::is_no_value;
 
 pub mod checks;
 pub mod customary;
@@ -85,20 +85,6 @@ pub fn element(g: Generator, index: u64) -> ValueAnswer
         return ValueAnswer::Refused(refusal);
     }
     ValueAnswer::Value(kinds::value_of(g, index))
-}
-
-// Whether no generator of the kind yields a number.
-fn is_no_value(g: Generator, value: u64) -> bool
-    requires { ⌜ g .width ≤ 64 ⌝ }
-    ensures { λ r. ⌜ r ≡ valueRefused g value ⌝ }
-{
-    if exceeds_modulus(g, value) {
-        return true;
-    }
-    if g.width != 0 {
-        return false;
-    }
-    value == 0
 }
 
 // The conditions of the predecessor call.

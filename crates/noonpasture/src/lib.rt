@@ -42,7 +42,7 @@ pub extern "C" fn np_element(g: Generator, index: u64) -> ValueReply
     of_value(generator::element(g, index))
 }
 
-// The preperiod and the period's exponent.
+// The preperiod and the period.
 #[no_mangle]
 pub extern "C" fn np_orbit(g: Generator) -> OrbitReply
     ensures { λ r. ⌜ OrbitPromise g r ⌝ }

@@ -16,6 +16,8 @@ use Rattle.generator.specs.Affine.{Linear}
 use Rattle.generator.proofs.Refusals.{prime}
 use Rattle.generator.proofs.Replies.{number-suc, number-nonzero}
 use Rattle.orbits.specs.declared.IndexAnswer.the-variants.{At, Never, Refused}
+use Rattle.orbits.specs.declared.kinds.Sighting.the-variants as sighting
+use Rattle.orbits.specs.Gap.{SightingIs}
 use Rattle.orbits.specs.Index.{replyOf, IndexPromise}
 use Rattle.orbits.proofs.Elements.{reduced}
 use Rattle.orbits.proofs.Primes.{prime-range, prime-occurs}
@@ -23,6 +25,16 @@ use Rattle.orbits.proofs.Primes.{prime-range, prime-occurs}
 -- A number of 2 ^ n or more is not yielded.
 pub wide-absent : {g : Generator} {y : ℕ} → Linear g → 2 ^ g .width ≤ y → Absent (element g) y
 wide-absent v = reduced-absent (reduced v)
+
+-- a number that is found with the period is found below the modulus, whatever the kind
+pub sighting-located : {g : Generator} {y k last : ℕ} → SightingIs g y (sighting.At k last) →
+    Located (element g) y (modulus g) k
+sighting-located {g} s =
+    record {
+      below = omega (arith, s .0 .below, s .1 .within);
+      yields = s .0 .yields;
+      first = s .0 .first;
+    }
 
 -- The promise of the call.
 pub index-refused : (g : Generator) (y : ℕ) (r : Refusal) → numberOf r ≡ refusalOf g → IndexPromise g y (replyOf (Refused r))

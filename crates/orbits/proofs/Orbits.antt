@@ -106,7 +106,7 @@ odd-has-cycle g z p =
         )
 
 -- an even multiplier is one of the linear kind
-pub even-linear : (g : Generator) → refusalOf g ≡ 0 → g .multiplier % 2 ≡ 0 → Linear g
+even-linear : (g : Generator) → refusalOf g ≡ 0 → g .multiplier % 2 ≡ 0 → Linear g
 even-linear g z p = linear g z (λ w. omega (arith, p, prime g z w .multiplier))
 
 -- every accepted generator has an orbit, and what the definitions find below the modulus

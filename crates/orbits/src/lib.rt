@@ -1,6 +1,6 @@
-// The orbit of a generator, the least index of a number, and all indices of a number in the low places, for every generator;
-// and for odd multipliers the steps between two numbers. No search makes more than n + 1 rounds, n the width, and at width 0
-// none looks at more than the 536 roots of unity.
+// The orbit of a generator and the least index of a number, for every generator; at widths from 1 on all indices of a number in
+// the low places; and for odd multipliers the steps between two numbers. No search makes more than n + 1 rounds, n the width, and
+// at width 0 none makes more than 539 comparisons with a root of unity.
 ghost use mathlib.Core.Path.{_≡_};
 ghost use Rattle.generator.specs.Refusals.{checkNumber};
 ghost use Rattle.orbits.specs.Orbit.{OrbitPromise, orbitOf};

@@ -5,7 +5,7 @@ use crate::calls::*;
 use crate::random::Random;
 use crate::{model, prime};
 
-/// Widths that refuse the operands of another: 0, which takes others, and those that are too large.
+/// Width 0, which has operands of its own, and widths that are too large.
 const OTHER_WIDTHS: [u64; 6] = [0, 65, 66, 128, 1 << 32, u64::MAX];
 
 /// The lowest `width` bits set.

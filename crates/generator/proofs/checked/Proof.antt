@@ -1,11 +1,11 @@
 -- `generator::checked` meets its contract: each way out rewrites the refusal table by the tests that led there.
+use borrow.Author.Needs.{needs}
 use mathlib.Core.Path.{_≡_, sym, _∙_}
 use mathlib.Core.Bool.{false}
 use lib.Dec.{leb}
 use borrow.Author.Tests.{lt-ltb, le-ltb}
 use Rattle.generator.specs.Recurrence.{modulus}
 use Rattle.generator.specs.Refusals.{refusalOf, widthRefused}
-use borrow.Author.Needs.{needs}
 use Rattle.generator.proofs.checked.Statement.{statement}
 use Rattle.generator.proofs.checked.Tie as tie
 

@@ -517,7 +517,7 @@ fn prime_digits() -> Tally {
     tally
 }
 
-/// Multipliers, increments and seeds, of which one is just outside of what is accepted, or none is.
+/// Multipliers, increments and seeds: accepted, or with one or more that are not.
 const PRIME_OPERANDS: [[u64; 3]; 13] = [
     [16_807, 0, 1],
     [16_807, 0, prime::PERIOD],

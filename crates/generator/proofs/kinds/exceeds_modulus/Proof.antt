@@ -1,10 +1,10 @@
 -- `generator::kinds::exceeds_modulus` meets its contract: the modulus of each kind.
+use borrow.Author.Needs.{needs}
 use mathlib.Core.Path.{sym, ap, _∙_}
 use Prim.Native.Nat.{ℕ}
 use native.Mathlib.Omega.{arith}
 use lib.Dec.{leb}
 use Rattle.generator.proofs.Refusals.{modulus-linear, modulus-prime}
-use borrow.Author.Needs.{needs}
 use Rattle.generator.proofs.kinds.exceeds_modulus.Statement.{statement}
 use Rattle.generator.proofs.kinds.exceeds_modulus.Tie as tie
 

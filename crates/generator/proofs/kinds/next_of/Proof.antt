@@ -1,7 +1,7 @@
 -- `generator::kinds::next_of` meets its contract: the width tells the kind of an accepted generator.
+use borrow.Author.Needs.{needs}
 use Rattle.generator.proofs.Refusals.{linear, prime}
 use Rattle.generator.proofs.Elements.{prime-below}
-use borrow.Author.Needs.{needs}
 use Rattle.generator.proofs.kinds.next_of.Statement.{statement}
 use Rattle.generator.proofs.kinds.next_of.Tie as tie
 

@@ -1,6 +1,6 @@
 -- `generator::kinds::previous_of` meets its contract: the width tells the kind of an accepted generator.
-use Rattle.generator.proofs.StepBack.{invertible, prime-invertible}
 use borrow.Author.Needs.{needs}
+use Rattle.generator.proofs.StepBack.{invertible, prime-invertible}
 use Rattle.generator.proofs.kinds.previous_of.Statement.{statement}
 use Rattle.generator.proofs.kinds.previous_of.Tie as tie
 

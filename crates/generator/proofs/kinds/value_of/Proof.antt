@@ -1,6 +1,6 @@
 -- `generator::kinds::value_of` meets its contract: the width tells the kind of an accepted generator.
-use Rattle.generator.proofs.Refusals.{linear, prime}
 use borrow.Author.Needs.{needs}
+use Rattle.generator.proofs.Refusals.{linear, prime}
 use Rattle.generator.proofs.kinds.value_of.Statement.{statement}
 use Rattle.generator.proofs.kinds.value_of.Tie as tie
 

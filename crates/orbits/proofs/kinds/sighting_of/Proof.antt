@@ -1,6 +1,6 @@
 -- `orbits::kinds::sighting_of` meets its contract: the width tells the kind of an accepted generator.
-use Rattle.generator.proofs.Refusals.{linear, prime}
 use borrow.Author.Needs.{needs}
+use Rattle.generator.proofs.Refusals.{linear, prime}
 use Rattle.orbits.proofs.kinds.sighting_of.Statement.{statement}
 use Rattle.orbits.proofs.kinds.sighting_of.Tie as tie
 

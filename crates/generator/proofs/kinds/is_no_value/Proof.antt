@@ -1,9 +1,9 @@
--- `generator::is_no_value` meets its contract: each way out rewrites the condition by the tests that led there.
+-- `generator::kinds::is_no_value` meets its contract: each way out rewrites the condition by the tests that led there.
+use borrow.Author.Needs.{needs}
 use mathlib.Core.Path.{sym, _∙_}
 use borrow.Author.Tests.{eq-eqb, ne-eqb}
-use borrow.Author.Needs.{needs}
-use Rattle.generator.proofs.is_no_value.Statement.{statement}
-use Rattle.generator.proofs.is_no_value.Tie as tie
+use Rattle.generator.proofs.kinds.is_no_value.Statement.{statement}
+use Rattle.generator.proofs.kinds.is_no_value.Tie as tie
 
 exceeds-modulus-requires : tie.Need-exceeds-modulus-requires
 exceeds-modulus-requires c κs = search needs

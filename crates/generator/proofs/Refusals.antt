@@ -1,5 +1,5 @@
 -- The refusal table by cases: what is known of a generator that is refused or accepted.
-use mathlib.Core.Path.{_≡_, refl, ap, subst}
+use mathlib.Core.Path.{_≡_, refl, sym, ap, subst}
 use mathlib.Core.Bool.{Bool, true, false, cond, not, _||_, true≢false}
 use mathlib.Core.Logic.{by-cases}
 use Prim.Native.Nat.{ℕ, zero, suc, _^_, _≤_, _<_}
@@ -7,7 +7,7 @@ use native.Mathlib.Decide.{ℕ-discrete}
 use native.Mathlib.Omega.{arith}
 use lib.Dec.{eqb, leb}
 use lib.Pow.{pow-pos, pow-mono}
-use borrow.Author.Tests.{eq-eqb, ne-eqb, eqb-true, lt-leb, le-ltb, leb-false, eqb-false, ltb-false}
+use borrow.Author.Tests.{eq-eqb, ne-eqb, eqb-true, leb-true, lt-leb, le-ltb, leb-false, eqb-false, ltb-false}
 use Rattle.generator.specs.declared.Generator.{Generator}
 use Rattle.generator.specs.Recurrence.{modulusOf, modulus}
 use Rattle.generator.specs.Refusals.{refusalOf, orElse, widthRefused, operandRefused, primeRefused}
@@ -108,9 +108,14 @@ accepted-none g a =
         simp (eq-eqb _ _ z, eq-eqb _ _ (at .0), eq-eqb _ _ (at .1), ne-eqb (g .seed) 0 (λ q. omega (arith, at .2))))
         (λ d. simp (ne-eqb _ _ d))
 
--- at width 0, with the right multiplier and increment, the seed decides
-pub seed-decides : (g : Generator) → g .width ≡ 0 → g .multiplier ≡ 16807 → g .increment ≡ 0 → eqb (g .seed) 0 ≡ primeRefused g
-seed-decides g w a c = rw (eq-eqb _ _ w, eq-eqb _ _ a, eq-eqb _ _ c)
+-- and up to width 64 any other one is refused with 4
+pub refused-four : (g : Generator) → g .width ≤ 64 → (Accepted g → ⊥) → 4 ≡ refusalOf g
+unfolding refusalOf
+refused-four g l unfit = rw (le-ltb 64 (g .width) l) (go (operandRefused g || primeRefused g) refl)
+  where
+    go : (b : Bool) → (operandRefused g || primeRefused g) ≡ b → _≡_ {A = ℕ} 4 (cond b 4 0)
+    go true e = refl
+    go false e = absurd (unfit (accepted g (rw (le-ltb 64 (g .width) l, e))))
 
 -- the modulus of the linear kind
 pub modulus-linear : (g : Generator) → 1 ≤ g .width → modulus g ≡ 2 ^ g .width
@@ -158,6 +163,26 @@ linear g e nonzero =
     below : {u : ℕ} → u < modulus g → u < 2 ^ g .width
     below {u} h = subst (λ (m : ℕ). u < m) (modulus-linear g low) h
 
+-- its conditions on the operands, as the machine tests them
+pub wide-unfit : (g : Generator) {x : ℕ} → 1 ≤ g .width → leb (2 ^ g .width) x ≡ true → x < modulus g → ⊥
+wide-unfit g {x} low e h = omega (arith, leb-true (2 ^ g .width) x e, subst (λ (m : ℕ). x < m) (modulus-linear g low) h)
+
+pub linear-fits : (g : Generator) → (1 ≤ g .width) × (g .width ≤ 64) → leb (2 ^ g .width) (g .multiplier) ≡ false →
+    leb (2 ^ g .width) (g .increment) ≡ false → leb (2 ^ g .width) (g .seed) ≡ false → 0 ≡ refusalOf g
+linear-fits g w a c x =
+    sym
+    (accepted-none g
+    (record {
+      width-high = w .1;
+      multiplier-below = below a;
+      increment-below = below c;
+      seed-below = below x;
+      at-zero = λ z. absurd (omega (arith, w .0));
+    }))
+  where
+    below : {u : ℕ} → leb (2 ^ g .width) u ≡ false → u < modulus g
+    below {u} e = subst (λ (m : ℕ). u < m) (sym (modulus-linear g (w .0))) (leb-false _ _ e)
+
 -- the prime-modulus models
 pub modulus-prime : (g : Generator) → g .width ≡ 0 → modulus g ≡ 2147483647
 unfolding modulus
@@ -175,3 +200,20 @@ prime g e z =
   where
     fit : (g .multiplier ≡ 16807) × (g .increment ≡ 0) × (1 ≤ g .seed)
     fit = accepted g e .at-zero z
+
+-- and their conditions on the operands
+pub prime-fits : (g : Generator) → g .width ≡ 0 → g .multiplier ≡ 16807 → g .increment ≡ 0 → (g .seed ≡ 0 → ⊥) →
+    g .seed ≤ 2147483646 → 0 ≡ refusalOf g
+prime-fits g w a c nonzero high =
+    sym
+    (accepted-none g
+    (record {
+      width-high = omega (arith, w);
+      multiplier-below = below (omega (arith, a));
+      increment-below = below (omega (arith, c));
+      seed-below = below (omega (arith, high));
+      at-zero = λ z. (a, c, omega (arith, nonzero));
+    }))
+  where
+    below : {u : ℕ} → u < 2147483647 → u < modulus g
+    below {u} l = subst (λ (m : ℕ). u < m) (sym (modulus-prime g w)) l

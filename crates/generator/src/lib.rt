@@ -5,7 +5,6 @@ ghost use Rattle.generator.specs.Refusals.{checkNumber, refusalOf};
 ghost use Rattle.generator.specs.Replies.{valueOf, valueReply};
 ghost use Rattle.generator.specs.Predecessor.{predecessorRefusal, PredecessorPromise};
 ghost use Rattle.generator.specs.Customary.{CustomaryPromise};
-use kinds::exceeds_modulus;
 use kinds::is_no_value;
 
 pub mod checks;
@@ -61,19 +60,10 @@ pub fn checked(g: Generator) -> Check
     if 64 < g.width {
         return Check::Refused(Refusal::WidthOutOfRange);
     }
-    if exceeds_modulus(g, g.multiplier) {
-        return Check::Refused(Refusal::OperandOutOfRange);
+    if g.width == 0 {
+        return prime::checked(g);
     }
-    if exceeds_modulus(g, g.increment) {
-        return Check::Refused(Refusal::OperandOutOfRange);
-    }
-    if exceeds_modulus(g, g.seed) {
-        return Check::Refused(Refusal::OperandOutOfRange);
-    }
-    if prime::unfit(g) {
-        return Check::Refused(Refusal::OperandOutOfRange);
-    }
-    Check::Accepted
+    linear::checked(g)
 }
 
 // Element i of a generator.

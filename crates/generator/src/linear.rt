@@ -1,13 +1,17 @@
 // The linear kind: the map of i steps, made from the lowest bit of i up, and what rests on it.
 ghost use mathlib.Core.Path.{_≡_};
-ghost use Prim.Native.Nat.{_+_, _%_, _^_, _<_};
+ghost use Prim.Native.Nat.{_+_, _%_, _^_, _≤_, _<_};
 ghost use Rattle.generator.specs.Recurrence.{element, step};
+ghost use Rattle.generator.specs.Refusals.{checkNumber, refusalOf};
 ghost use Rattle.generator.specs.Predecessor.{OnlyPredecessor};
 ghost use Rattle.generator.specs.Affine.{Linear, Walks, Composes, apply, onceOf};
 ghost use Rattle.generator.specs.Trace.{affineOf, selectedOf, OneRound, Rounds, Continues};
+use crate::Check;
 use crate::Generator;
+use crate::Refusal;
 use std::num::wrapping_add_u64;
 use std::num::wrapping_sub_u64;
+use words::bits::exceeds;
 use words::bits::low_bits;
 use words::units::inverse;
 use words::wrapping_mul;
@@ -119,6 +123,23 @@ pub fn jump(a: u64, c: u64, i: u64) -> Affine
     ensures { λ r. ⌜ Walks a c i r ⌝ }
 {
     finish(a, c, 1, 0, i)
+}
+
+// The conditions on the operands.
+pub fn checked(g: Generator) -> Check
+    requires { ⌜ (1 ≤ g .width) × (g .width ≤ 64) ⌝ }
+    ensures { λ r. ⌜ checkNumber r ≡ refusalOf g ⌝ }
+{
+    if exceeds(g.multiplier, g.width) {
+        return Check::Refused(Refusal::OperandOutOfRange);
+    }
+    if exceeds(g.increment, g.width) {
+        return Check::Refused(Refusal::OperandOutOfRange);
+    }
+    if exceeds(g.seed, g.width) {
+        return Check::Refused(Refusal::OperandOutOfRange);
+    }
+    Check::Accepted
 }
 
 // Element i of an accepted generator.

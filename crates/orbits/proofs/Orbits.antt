@@ -1,7 +1,7 @@
 -- The orbit of a linear generator: with an odd multiplier it is periodic from the start, with an even one it comes to rest.
 -- Either way there is room for it below the modulus, so that the definitions find it there, as they find that of a prime-modulus
 -- model.
-use mathlib.Core.Path.{_≡_, refl, sym, ap, _∙_}
+use mathlib.Core.Path.{_≡_, refl, sym, ap, subst, _∙_}
 use mathlib.Core.Logic.{⊎-elim, by-cases}
 use Prim.Native.Nat.{ℕ, zero, suc, _+_, _-_, _/_, _%_, _^_, _≤_, _<_}
 use native.Mathlib.Nat.{le-of-lt, le-refl, le-trans, lt-of-lt-of-le}
@@ -199,7 +199,7 @@ orbit-odd g {e} z nonzero p o =
 pub orbit-prime : (g : Generator) {P : ℕ} → refusalOf g ≡ 0 → g .width ≡ 0 →
     (P ≡ 2147483646) × IsOrbit (element g) 0 P → OrbitPromise g (orbitOf (Period 0 P))
 orbit-prime g {P} z w o =
-    rw (o .0)
+    subst (λ (q : ℕ). OrbitPromise g (orbitOf (Period 0 q))) (sym (o .0))
     (record {
       equals = rw (z, preperiod-is orbit room, period-is orbit room, by-period w 0 2147483646);
       meaning = λ q. orbit;

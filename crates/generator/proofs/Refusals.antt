@@ -163,7 +163,7 @@ linear g e nonzero =
     below : {u : ℕ} → u < modulus g → u < 2 ^ g .width
     below {u} h = subst (λ (m : ℕ). u < m) (modulus-linear g low) h
 
--- its conditions on the operands, as the machine tests them
+-- its conditions on the operands, as the program tests them
 pub wide-unfit : (g : Generator) {x : ℕ} → 1 ≤ g .width → leb (2 ^ g .width) x ≡ true → x < modulus g → ⊥
 wide-unfit g {x} low e h = omega (arith, leb-true (2 ^ g .width) x e, subst (λ (m : ℕ). x < m) (modulus-linear g low) h)
 

@@ -13,7 +13,7 @@ use crate::prime;
 use words::bits::exceeds;
 
 // Whether x is not below the modulus.
-pub fn exceeds_modulus(g: Generator, x: u64) -> bool
+fn exceeds_modulus(g: Generator, x: u64) -> bool
     requires { ⌜ g .width ≤ 64 ⌝ }
     ensures { λ r. ⌜ r ≡ leb (modulus g) x ⌝ }
 {
@@ -23,7 +23,7 @@ pub fn exceeds_modulus(g: Generator, x: u64) -> bool
     exceeds(x, g.width)
 }
 
-// Whether no generator of this width yields a number.
+// Whether a number is one that no generator of this width yields.
 pub fn is_no_value(g: Generator, value: u64) -> bool
     requires { ⌜ g .width ≤ 64 ⌝ }
     ensures { λ r. ⌜ r ≡ valueRefused g value ⌝ }

@@ -1,4 +1,4 @@
-// The linear kind: the map of i steps, made from the lowest bit of i up, and what rests on it.
+// The linear kind: its conditions on the operands; the map of i steps, made from the lowest bit of i up, and what rests on it.
 ghost use mathlib.Core.Path.{_≡_};
 ghost use Prim.Native.Nat.{_+_, _%_, _^_, _≤_, _<_};
 ghost use Rattle.generator.specs.Recurrence.{element, step};

@@ -1,4 +1,5 @@
--- `generator::linear::checked` meets its contract: a test that holds rules out that the generator is accepted.
+-- `generator::linear::checked` meets its contract: a test that holds rules out that the generator is accepted, and one that passes
+-- them all has what acceptance asks.
 use borrow.Author.Needs.{needs}
 use mathlib.Core.Path.{sym, _∙_}
 use Rattle.generator.proofs.Refusals.{refused-four, wide-unfit, linear-fits}

@@ -13,8 +13,8 @@
  * allocates, keeps a pointer or has a state, so all of them may run at once in several threads.
  *
  * The first field of a reply is the refusal: 0, or the lowest NP_REFUSED_.. that applies. Beside
- * a refusal every other field is 0 (but for the line that it concerns, in a lookup) and nothing
- * is written.
+ * a refusal every other field is 0 (but for the line that it concerns, in a lookup or a summary)
+ * and nothing is written.
  */
 #ifndef NOONPASTURE_H
 #define NOONPASTURE_H
@@ -26,12 +26,12 @@
 extern "C" {
 #endif
 
-#define NP_VERSION "0.9.0"
+#define NP_VERSION "0.10.0"
 
 #define NP_LINE_MAX 107       /* no line of a run is longer, its byte 10 included */
 #define NP_ARCHIVE_MAX 65536  /* no accepted archive is longer */
 
-/* Why a call is refused. In an archive 1 comes first, then line by line 2, 3, 4, 5. */
+/* Why a call is refused. In an archive 1 comes first, then line by line 2, 3, 4, 5, then 10. */
 enum {
     NP_REFUSED_ARCHIVE_TOO_LONG = 1,      /* more than NP_ARCHIVE_MAX bytes */
     NP_REFUSED_MALFORMED_LINE = 2,        /* bytes that are not a valid line: a field that is no
@@ -46,7 +46,8 @@ enum {
                                              is not 1 to 2147483646 */
     NP_REFUSED_NOT_INVERTIBLE = 7,        /* predecessor or gap with an even multiplier */
     NP_REFUSED_BUFFER_TOO_SHORT = 8,      /* the buffer is shorter than the line */
-    NP_REFUSED_PLACES_OUT_OF_RANGE = 9    /* 0 places, or more than the width has: at width 0 always */
+    NP_REFUSED_PLACES_OUT_OF_RANGE = 9,   /* 0 places, or more than the width has: at width 0 always */
+    NP_REFUSED_TOTAL_OVERFLOW = 10        /* summary of an archive whose counts sum to more than 2^64 - 1 */
 };
 
 typedef struct { uint64_t width, multiplier, increment, seed; } np_generator;
@@ -62,6 +63,8 @@ typedef struct { uint64_t refusal, found; int64_t steps; } np_gap_reply;      /*
 typedef struct { uint64_t refusal; np_run run; } np_run_reply;
 typedef struct { uint64_t refusal, line, found, position; } np_lookup_reply;  /* found 0, refusal 0: none */
 typedef struct { uint64_t start, length; } np_part;                           /* length 0: the empty part */
+/* line: the one that a refusal 2 to 5 concerns, else 0 */
+typedef struct { uint64_t refusal, line, line_count, total; } np_summary_reply;
 
 /* The element at an index, any from 0 to 2^64 - 1. Refusals 3, 4. */
 np_value        np_element(np_generator g, uint64_t index);
@@ -122,6 +125,11 @@ np_part         np_line(const uint8_t *archive, size_t length, uint64_t line);
  * refused line. */
 np_lookup_reply np_lookup(const uint8_t *archive, size_t length, uint64_t value);
 
+/* How many lines the archive has (line_count) and the sum of their counts (total); both are 0 for an
+ * archive of 0 bytes. The whole archive is checked first, so 10 is given only if every line has passed.
+ * Refusals 1 and 10 with line 0; 2, 3, 4, 5 with the number of the refused line. */
+np_summary_reply np_summary(const uint8_t *archive, size_t length);
+
 /* A refusal's reason in words; of 0 and of numbers that are no refusal it says so. */
 static inline const char *np_refusal_text(uint64_t refusal)
 {
@@ -138,6 +146,7 @@ static inline const char *np_refusal_text(uint64_t refusal)
     case NP_REFUSED_NOT_INVERTIBLE: return "the multiplier is even: a predecessor or a gap needs an odd one";
     case NP_REFUSED_BUFFER_TOO_SHORT: return "the buffer is shorter than the line";
     case NP_REFUSED_PLACES_OUT_OF_RANGE: return "the number of places is 0 or above the width";
+    case NP_REFUSED_TOTAL_OVERFLOW: return "the sum of the counts is above 2^64 - 1";
     default: return "no refusal has this number";
     }
 }

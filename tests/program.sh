@@ -1,6 +1,6 @@
-# What the scenarios of the programs share; runfind.sh and runshow.sh read it in. Each run is in a folder of its own, and what
-# the program prints is compared byte for byte. Its exit status doesn't matter, and standard error only where the answer can't
-# be written; but it must end.
+# What the scenarios of the programs share; runfind.sh, runshow.sh and runsum.sh read it in. Each run is in a folder of its own,
+# and what the program prints is compared byte for byte. Its exit status doesn't matter, and standard error only where the
+# answer can't be written; but it must end.
 
 set -u
 shopt -s lastpipe # the end of a pipe counts in this shell
@@ -17,6 +17,7 @@ trap 'rm -rf "$work"' EXIT
 chmod 755 "$work"
 folder=$work/folder
 limit=60 # seconds for one run
+question= # what is asked where the archive alone matters: nothing, unless a script sets it
 compared=0
 failed=0
 
@@ -34,9 +35,9 @@ archive() {
     printf '%b' "$1" >"$folder/archive.csv"
 }
 
-# repeated COUNT LINE: the line so many times.
-repeated() {
-    yes "$2" | head -n "$1"
+# lines TEXT..: each on a line of its own.
+lines() {
+    printf '%s\n' "$@"
 }
 
 # shown LINE POSITION [COUNT]: the numbers at this position of the line's run and behind it, one if no count is given, by the
@@ -92,6 +93,15 @@ digits() {
 
 example='4,5,3,1,0,16\n10,371,995,73,100,8\n'
 
+# longest: different lines that make 65,536 bytes; only the last one, 5460, shows 49.
+longest() {
+    awk 'BEGIN {
+        for (k = 0; k < 5459; k++)
+            printf "%d,%d,%d,%d,%d,%d\n", 4 + k % 2, k / 2 % 10, k / 20 % 10, k / 200 % 10, k / 2000, k < 8 ? 10 : 1 + k % 9
+    }'
+    echo 10,371,995,73,100,8
+}
+
 # Runs a program whose standard input is a pipe that is still open but has nothing to read.
 not_blocking='
 import os, sys
@@ -101,19 +111,49 @@ os.dup2(out, 0)
 os.set_inheritable(into, True)
 os.execv(sys.argv[1], sys.argv[1:])'
 
-# unread QUESTION: a file that can't be read.
-unread() {
-    fresh
-    answers 'missing archive' "$1" unread
-    mkdir "$folder/archive.csv"
-    answers 'a folder as archive' "$1" unread
-    fresh
-    ln -s nowhere "$folder/archive.csv"
-    answers 'a link to nothing as archive' "$1" unread
-    no_permission "$1"
+# refused NAME NUMBER TEXT: the text behind a good line is refused with this number, as line 2, though line 1 answers the
+# question.
+refused() {
+    archive "4,5,3,1,0,16\n$3"
+    answers "$1" "$question" "refused,$2,2"
 }
 
-# no_permission QUESTION. Root may read everything, so the program is then run as nobody, from a copy that nobody reaches.
+# fed NAME WANTED PART..: the archive is a named pipe that gets these pieces.
+fed() {
+    local name=$1 wanted=$2 writer
+    shift 2
+    fresh
+    mkfifo "$folder/archive.csv"
+    pieces "$@" >"$folder/archive.csv" 2>"$work/writer" &
+    writer=$!
+    answers "$name" "$question" "$wanted"
+    kill "$writer" 2>"$work/writer" # only if nobody read it to the end
+    wait "$writer" 2>"$work/writer"
+}
+
+# Every fault of the file; they are told alike whatever is asked.
+faults() {
+    unread
+    overlong
+    malformed
+    spreadsheets
+    out_of_range
+    order
+}
+
+# A file that can't be read.
+unread() {
+    fresh
+    answers 'missing archive' "$question" unread
+    mkdir "$folder/archive.csv"
+    answers 'a folder as archive' "$question" unread
+    fresh
+    ln -s nowhere "$folder/archive.csv"
+    answers 'a link to nothing as archive' "$question" unread
+    no_permission
+}
+
+# Root may read everything, so the program is then run as nobody, from a copy that nobody reaches.
 no_permission() {
     local as_user=() program=$program
     if [ "$(id -u)" -eq 0 ]; then
@@ -124,10 +164,142 @@ no_permission() {
     archive "$example"
     chmod 000 "$folder/archive.csv"
     if "${as_user[@]}" test -x "$program" && ! "${as_user[@]}" test -r "$folder/archive.csv"; then
-        printf '%b' "$1" | prints 'archive without permission' unread "${as_user[@]}"
+        printf '%b' "$question" | prints 'archive without permission' unread "${as_user[@]}"
     else
         echo 'skip archive without permission: no user here may run the program but not read the file'
     fi
+}
+
+overlong() {
+    fresh
+    longest >"$folder/archive.csv"
+    echo >>"$folder/archive.csv"
+    answers "$(wc -c <"$folder/archive.csv") bytes" "$question" refused,1,0
+    head -c 65536 /dev/zero >"$folder/archive.csv"
+    answers '65536 bytes, all 0' "$question" refused,2,1
+    head -c 65537 /dev/zero >"$folder/archive.csv"
+    answers '65537 bytes, all 0' "$question" refused,1,0
+    head -c 65536 /dev/zero | tr '\0' '\n' >"$folder/archive.csv"
+    answers '65536 bytes, all 10' "$question" refused,2,1
+    if truncate -s 3G "$folder/archive.csv"; then
+        answers '3 GB' "$question" refused,1,0
+    else
+        echo 'skip 3 GB: no such file can be made here'
+    fi
+}
+
+malformed() {
+    refused 'last line without byte 10' 2 '4,5,3,1,0,16'
+    refused 'one byte behind the last line' 2 '4'
+    refused 'empty line' 2 '\n4,5,3,1,0,16\n'
+    refused 'empty last line' 2 '\n'
+    refused 'byte 13' 2 '4,5,3,1,0,16\r\n'
+    refused 'seven fields' 2 '4,5,3,1,0,16,1\n'
+    refused 'five fields' 2 '4,5,3,1,0\n'
+    refused 'comma at the end' 2 '4,5,3,1,0,16,\n'
+    refused 'comma at the start' 2 ',4,5,3,1,0,16\n'
+    refused 'empty field' 2 '4,5,,1,0,16\n'
+    refused 'blank between fields' 2 '4,5,3, 1,0,16\n'
+    refused 'blank at the end' 2 '4,5,3,1,0,16 \n'
+    refused 'sign' 2 '4,5,3,+1,0,16\n'
+    refused 'quoted field' 2 '4,5,3,"1",0,16\n'
+    refused 'letter' 2 '4,5,3,a,0,16\n'
+    refused 'semicolons' 2 '4;5;3;1;0;16\n'
+    refused 'byte 0' 2 '4,5,3,1,0,16\0000\n'
+    refused 'field of 60,000 digits' 2 "$(head -c 60000 /dev/zero | tr '\0' 1),5,3,1,0,16\n"
+    bad_fields
+}
+
+# Each of the six fields with a zero before it, and too large for 64 bits.
+bad_fields() {
+    local fields=(4 5 3 1 0 16) at bad changed
+    for at in "${!fields[@]}"; do
+        for bad in "0${fields[at]}" 18446744073709551616 100000000000000000000; do
+            changed=("${fields[@]}")
+            changed[at]=$bad
+            refused "field $((at + 1)) is $bad" 2 "$(IFS=,; echo "${changed[*]}")\n"
+        done
+    done
+}
+
+# What README says of an archive that a spreadsheet has saved.
+spreadsheets() {
+    archive '4,5,3,1,0,16\r\n10,371,995,73,100,8\r\n'
+    answers 'lines that end with bytes 13 and 10' "$question" refused,2,1
+    archive '\0357\0273\0277'"$example"
+    answers 'a byte-order mark' "$question" refused,2,1
+    archive "width,multiplier,increment,seed,first,count\\n$example"
+    answers 'a row of headings' "$question" refused,2,1
+    archive '4;5;3;1;0;16\n10;371;995;73;100;8\n'
+    answers 'semicolons in every line' "$question" refused,2,1
+    refused 'a large number rounded' 2 '4,5,3,1,1E+19,16\n'
+}
+
+out_of_range() {
+    refused 'width 65' 3 '65,5,3,1,0,16\n'
+    refused 'width 2^64 - 1' 3 '18446744073709551615,5,3,1,0,16\n'
+    refused 'multiplier 2^4 at width 4' 4 '4,16,3,1,0,16\n'
+    refused 'increment 2^4 at width 4' 4 '4,5,16,1,0,16\n'
+    refused 'seed 2^4 at width 4' 4 '4,5,3,16,0,16\n'
+    refused 'seed 2^63 at width 63' 4 '63,5,3,9223372036854775808,0,16\n'
+    refused 'all operands 0 at width 0' 4 '0,0,0,0,0,16\n'
+    refused 'seed 0 at width 0' 4 '0,16807,0,0,0,16\n'
+    refused 'seed 2^31 - 1 at width 0' 4 '0,16807,0,2147483647,0,16\n'
+    refused 'increment 1 at width 0' 4 '0,16807,1,1,0,16\n'
+    refused 'multiplier 16806 at width 0' 4 '0,16806,0,1,0,16\n'
+    refused 'multiplier 16808 at width 0' 4 '0,16808,0,1,0,16\n'
+    refused 'count 0' 5 '4,5,3,1,0,0\n'
+    refused 'first 2^64 - 2, count 2' 5 '4,5,3,1,18446744073709551614,2\n'
+    refused 'first 2^64 - 1, count 1' 5 '4,5,3,1,18446744073709551615,1\n'
+    refused 'first 2^64 - 1, count 0' 5 '4,5,3,1,18446744073709551615,0\n'
+    refused 'first 1, count 2^64 - 1' 5 '4,5,3,1,1,18446744073709551615\n'
+    refused 'count 0 at width 0' 5 '0,16807,0,1,0,0\n'
+    refused 'first 2^64 - 1, count 1 at width 0' 5 '0,16807,0,1,18446744073709551615,1\n'
+}
+
+# In a line the lowest number counts, among lines the first.
+order() {
+    refused 'line malformed, width 65, count 00' 2 '65,5,3,1,0,00\n'
+    refused 'width 65, count 0' 3 '65,5,3,1,0,0\n'
+    refused 'seed 2^4 at width 4, count 0' 4 '4,5,3,16,0,0\n'
+    refused 'width 65, seed 0, count 0' 3 '65,16807,0,0,0,0\n'
+    refused 'seed 0 at width 0, count 0' 4 '0,16807,0,0,0,0\n'
+    refused 'seed 0 at width 0, count 00' 2 '0,16807,0,0,0,00\n'
+    refused 'line 2 is 5, line 3 is 2' 5 '4,5,3,1,0,0\n4,5\n'
+    refused 'line 2 is 4, line 3 is 3' 4 '4,5,3,16,0,1\n65,5,3,1,0,1\n'
+    refused 'line 2 is 4 at width 0, line 3 is 3' 4 '0,5,3,1,0,1\n65,5,3,1,0,1\n'
+    refused 'line 2 is 3, line 3 is 4 at width 0' 3 '65,5,3,1,0,1\n0,5,3,1,0,1\n'
+    refused 'line 2 is 3, line 4 is 2' 3 '70,5,3,1,0,1\n4,5,3,1,0,16\n4,5\n'
+    archive '4,5\n4,5,3,1,0,16\n'
+    answers 'bad line 1 of 2' "$question" refused,2,1
+    archive "$(longest | sed -n 1,6p)\n4,5,3,1,0,0\n"
+    answers 'bad line 7 of 7' "$question" refused,5,7
+}
+
+# Lines at the bounds. What is tried of an archive of such a line the scripts say, in accepted NAME LINE POSITION.
+in_range() {
+    accepted 'width 64' 64,6364136223846793005,1442695040888963407,1,1099511627776,1000 777
+    accepted 'width 64, all as large as can be' \
+        64,18446744073709551615,18446744073709551615,18446744073709551615,0,18446744073709551615 1
+    accepted 'multiplier 15 at width 4' 4,15,0,1,0,2 1
+    accepted 'first 2^64 - 2, count 1' 4,5,3,1,18446744073709551614,1 0
+    accepted 'first 0, count 2^64 - 1' 4,5,3,1,0,18446744073709551615 15
+    accepted 'even multiplier, width 64' 64,18446744073709551614,1,12345678901234567890,3,100 20
+    accepted 'width 0, seed 1' 0,16807,0,1,0,16 15
+    accepted 'width 0, seed 2^31 - 2' 0,16807,0,2147483646,1099511627776,1000 777
+    accepted 'width 0, first 2^64 - 2, count 1' 0,16807,0,1043618065,18446744073709551614,1 0
+    accepted 'width 0, first 0, count 2^64 - 1' 0,16807,0,1043618065,0,18446744073709551615 2147483645
+}
+
+# archives_in_pieces EXAMPLE NOTHING LONGEST: what is printed for the example, for 0 bytes and for the longest archive.
+archives_in_pieces() {
+    fed 'archive in pieces' "$1" 4,5, 3,1,0,16 '\n' 10,371 ',995,73,100,8\n'
+    fed 'archive in pieces, byte 10 missing' refused,2,2 4,5, 3,1,0,16 '\n' 10,371,995,73,100,8
+    fed 'archive in pieces, 0 bytes' "$2" '' ''
+    local bytes
+    bytes=$(longest)
+    fed 'archive in pieces, 65536 bytes' "$3" "${bytes:0:20000}" "${bytes:20000:1}" "${bytes:20001}" '\n'
+    fed 'archive in pieces, 65537 bytes' refused,1,0 "${bytes:0:20000}" "${bytes:20000}" '\n' '\n'
 }
 
 # question_first: what is no question is told before the file is looked at.
@@ -140,14 +312,18 @@ question_first() {
     answers 'bad question, refused archive' 'x\n' question
 }
 
-# unwritten NAME QUESTION: output that can't be written is told in one sentence on standard error.
+# unwritten NAME QUESTION SENTENCE: output that can't be written is told in this sentence on standard error.
 unwritten() {
-    archive "$example"
     (cd "$folder" && printf '%b' "$2" | timeout "$limit" "$program" >/dev/full 2>"$work/errors")
-    if [ "$(wc -l <"$work/errors")" -eq 1 ]; then
-        report ok "standard output is full, $1: $(cat "$work/errors")"
+    told "standard output is full, $1" "$3"
+}
+
+# told NAME SENTENCE: standard error has this sentence and nothing else.
+told() {
+    if printf '%s\n' "$2" | cmp -s - "$work/errors"; then
+        report ok "$1: $2"
     else
-        report FAIL "standard output is full, $1: no sentence on standard error"
+        report FAIL "$1: wanted $2, got on standard error$(head -c 200 "$work/errors" | od -An -c | tr -s ' \n' ' ')"
     fi
 }
 

@@ -5,11 +5,7 @@
 #     runshow.sh PROGRAM
 
 source "$(dirname "$(realpath "$0")")/program.sh"
-
-# lines NUMBER..: a number on each line.
-lines() {
-    printf '%s\n' "$@"
-}
+question='2,0,8\n'
 
 # agrees NAME LINE POSITION COUNT [THERE]: of an archive of this line the numbers are those of the reference; THERE are there.
 agrees() {
@@ -90,12 +86,10 @@ refusals() {
     archive '4,5,3,1,0,0\n'
     answers 'count 0' '1,0,1\n' refused,5,1
     fresh
-    repeated 5036 4,5,3,1,0,15 >"$folder/archive.csv"
-    repeated 4 4,5,3,1,0,6 >>"$folder/archive.csv"
-    echo 10,371,995,73,100,8 >>"$folder/archive.csv"
-    answers "$(wc -c <"$folder/archive.csv") bytes, the last line" '5041,0,2\n' "$(lines 49 742)"
+    longest >"$folder/archive.csv"
+    answers "$(wc -c <"$folder/archive.csv") bytes, the last line" '5460,0,2\n' "$(lines 49 742)"
     echo >>"$folder/archive.csv"
-    answers "$(wc -c <"$folder/archive.csv") bytes" '5041,0,2\n' refused,1,0
+    answers "$(wc -c <"$folder/archive.csv") bytes" '5460,0,2\n' refused,1,0
 }
 
 wide() {
@@ -173,16 +167,21 @@ whole_periods() {
     fi
 }
 
+unwritable() {
+    archive "$example"
+    unwritten 'numbers' '2,0,8\n' 'runshow: the numbers could not be written'
+    unwritten 'a word' '2,8,8\n' 'runshow: the answer could not be written'
+}
+
 examples
 at_the_end
 questions
 question_first
-unread '2,0,8\n'
+unread
 refusals
 wide
 prime_modulus
 without_end
 whole_periods
-unwritten 'numbers' '2,0,8\n'
-unwritten 'a word' '2,8,8\n'
+unwritable
 done_with runshow

@@ -154,24 +154,30 @@ static void print_lookup(np_lookup_reply r)
     print(4, r.refusal, r.line, r.found, r.position);
 }
 
-/* No vector is long enough for the refusal of an archive's length. */
-static void try_long_archives(void)
+static void print_summary(np_summary_reply r)
+{
+    print(4, r.refusal, r.line, r.line_count, r.total);
+}
+
+/* No vector is long enough for the refusal of an archive's length: so many bytes 0 are tried. */
+static void try_zeros(size_t length, uint64_t refusal, uint64_t line)
 {
     static uint8_t archive[NP_ARCHIVE_MAX + 1];
-    np_lookup_reply longest = np_lookup(archive, NP_ARCHIVE_MAX, 0);
-    np_lookup_reply too_long = np_lookup(archive, NP_ARCHIVE_MAX + 1, 0);
+    np_lookup_reply found = np_lookup(archive, length, 0);
+    np_summary_reply sum = np_summary(archive, length);
 
-    if (longest.refusal != NP_REFUSED_MALFORMED_LINE || longest.line != 1)
-        fail("the longest archive is refused for its length");
-    if (too_long.refusal != NP_REFUSED_ARCHIVE_TOO_LONG || too_long.line != 0 || too_long.found != 0)
-        fail("an archive that is too long is not refused for that");
+    if (found.refusal != refusal || found.line != line || found.found != 0 || found.position != 0)
+        fail("a lookup in a long archive replies otherwise");
+    if (sum.refusal != refusal || sum.line != line || sum.line_count != 0 || sum.total != 0)
+        fail("a summary of a long archive replies otherwise");
 }
 
 int main(void)
 {
     int letter;
 
-    try_long_archives();
+    try_zeros(NP_ARCHIVE_MAX, NP_REFUSED_MALFORMED_LINE, 1);
+    try_zeros(NP_ARCHIVE_MAX + 1, NP_REFUSED_ARCHIVE_TOO_LONG, 0);
     while ((letter = next_call()) != 0)
         switch (letter) {
         case 'E': print_value(np_element(generator(), numbers[4])); break;
@@ -187,6 +193,7 @@ int main(void)
         case 'R': print_run(np_read_line(bytes(0), (size_t)numbers[0])); break;
         case 'L': print_part(np_line(bytes(1), (size_t)numbers[1], numbers[0])); break;
         case 'F': print_lookup(np_lookup(bytes(1), (size_t)numbers[1], numbers[0])); break;
+        case 'S': print_summary(np_summary(bytes(0), (size_t)numbers[0])); break;
         default: fail("no such call");
         }
     return 0;

@@ -17,6 +17,7 @@ OrbitReply = struct("refusal", "preperiod", "exponent", "period")
 PlacesReply = struct("refusal", "found", "index", "recurs", "exponent")
 GapReply = struct("refusal", "found", steps=c_int64)
 LookupReply = struct("refusal", "line", "found", "position")
+SummaryReply = struct("refusal", "line", "line_count", "total")
 
 library = ctypes.CDLL(sys.argv[1])
 library.np_element.argtypes = Generator, c_uint64
@@ -29,6 +30,8 @@ library.np_gap.argtypes = Generator, c_uint64, c_uint64
 library.np_gap.restype = GapReply
 library.np_lookup.argtypes = ctypes.c_char_p, c_size_t, c_uint64
 library.np_lookup.restype = LookupReply
+library.np_summary.argtypes = ctypes.c_char_p, c_size_t
+library.np_summary.restype = SummaryReply
 
 element = library.np_element(Generator(10, 371, 995, 73), 1000)
 prime_element = library.np_element(Generator(0, 16807, 0, 1), 2)
@@ -39,6 +42,7 @@ gap = library.np_gap(Generator(10, 371, 995, 73), 49, 985)
 archive = b"4,5,3,1,0,16\n10,371,995,73,100,8\n"
 found = library.np_lookup(archive, len(archive), 49)
 nothing = library.np_lookup(None, 0, 49)
+summary = library.np_summary(archive, len(archive))
 
 assert (element.refusal, element.value) == (0, 985)
 assert (prime_element.refusal, prime_element.value) == (0, 282475249)
@@ -48,4 +52,5 @@ assert (places.refusal, places.found, places.index, places.recurs, places.expone
 assert (gap.refusal, gap.found, gap.steps) == (0, 1, -124)
 assert (found.refusal, found.line, found.found, found.position) == (0, 2, 1, 0)
 assert (nothing.refusal, nothing.line, nothing.found, nothing.position) == (0, 0, 0, 0)
-print("shared library: 8 calls from Python")
+assert (summary.refusal, summary.line, summary.line_count, summary.total) == (0, 0, 2, 24)
+print("shared library: 9 calls from Python")

@@ -16,6 +16,7 @@ The file stdin has one call a line, as decimal numbers separated by commas behin
     R  read line             count of bytes, the bytes                           refusal, the six numbers
     L  line                  number, count of bytes, the bytes                   start, length
     F  lookup (find)         number, count of bytes, the bytes                   refusal, line, found, position
+    S  summary               count of bytes, the bytes                           refusal, line, line_count, total
     M  remake                the six numbers of a run, position, lent            refusal, count, 5 numbers
 
 The file stdout has the reply to each, the numbers on the right. No call has more than 250 numbers.
@@ -55,6 +56,7 @@ REPLY = {
     "R": ref.read_line,
     "L": lambda number, archive: ref.line(archive, number),
     "F": lambda number, archive: ref.lookup(archive, number),
+    "S": ref.summary,
     "M": ref.remake,
 }
 
@@ -716,10 +718,95 @@ def prime_calls():
     yield from archives_of([*prime_runs(), *short_runs(), *wide_runs()], 120)
 
 
+# For the summary: generators of each kind whose lines are short, and lines that are refused.
+BRIEF = (4, 5, 3, 1), (4, 2, 0, 1), (64, 1, 1, 0), (0, 16807, 0, 1), (1, 1, 1, 0), (64, 6, 1, 1), (5, 3, 0, 2)
+BAD_LINES = (
+    b"4,5,3,1,0\n",
+    b"4,5,3,1,0,18446744073709551616\n",
+    b"65,5,3,1,0,16\n",
+    b"4,16,3,1,0,16\n",
+    b"0,16807,0,0,0,16\n",
+    b"4,5,3,1,0,0\n",
+    b"4,5,3,1,1,18446744073709551615\n",
+)
+
+
+def runs_with(*counts):
+    """Different runs, up to seven."""
+    return [(*g, 0, count) for g, count in zip(BRIEF, counts)]
+
+
+def lines_with(*counts):
+    return [ref.line_of(run) for run in runs_with(*counts)]
+
+
+def shares(total, parts):
+    """So many counts with this sum: each as small as can be, as large, as large as the others, or any."""
+    counts = []
+    for others in range(parts - 1, -1, -1):
+        least, most = max(total - others * TOP, 1), min(total - others, TOP)
+        counts.append(pick((least, most, total // (others + 1), least + below(most - least + 1))))
+        total -= counts[-1]
+    return counts
+
+
+def plain_archives():
+    """None, document 01's, equal lines; one to twenty short ones; each of the seven kinds by itself."""
+    yield b""
+    yield b"4,5,3,1,0,16\n10,371,995,73,100,8\n"
+    yield b"4,5,3,1,0,16\n4,5,3,1,0,16\n"
+    short = [ref.line_of((4 + k % 6, 5, k % 10, 1, 0, 1 + k % 9)) for k in range(20)]
+    for length in (1, 2, 3, 9, 10, 11, 20):
+        yield b"".join(short[:length])
+    for g in BRIEF:
+        for count in (1, 20, TOP):
+            yield ref.line_of((*g, 0, count))
+
+
+def sums_about_the_limit():
+    """The largest sum and those above it, some of which are 0 or small modulo 2^64."""
+    for parts, total in product(range(2, 8), (TOP - 1, TOP, TOP + 1, TOP + 2, TOP + 25, 2 * TOP, 2**65, 3 * 2**64)):
+        if total <= parts * TOP:
+            yield b"".join(lines_with(*shares(total, parts)))
+
+
+def bad_lines_about_a_sum():
+    """A bad line at each place among lines whose sum is small, and too large; two of them behind one that
+    is too large. The first bad line is named, and never the sum."""
+    for bad, counts in product(BAD_LINES, ((1, 2, 3), (TOP, 1, TOP))):
+        for place in range(4):
+            lines = lines_with(*counts)
+            lines.insert(place, bad)
+            yield b"".join(lines)
+    for earlier, later in product(BAD_LINES[::2], repeat=2):
+        yield b"".join((*lines_with(TOP, 2), earlier, later))
+    for counts in ((1, 2), (TOP, 2)):
+        archive = b"".join(lines_with(*counts))
+        yield archive[:-1]
+        yield archive + b"\n"
+        yield b"\n" + archive
+
+
+def random_sums():
+    """Runs of every kind; sums about the largest. Now and then with a damaged line."""
+    pool = [*short_runs(), *wide_runs(), *prime_runs()]
+    for _ in range(50):
+        yield an_archive([pick(pool) for _ in range(below(12))])
+    for _ in range(50):
+        total = TOP + pick((-1, 0, 0, 1, 1, 2, below(100)))
+        yield an_archive(runs_with(*shares(total, 2 + below(6))))
+
+
+def summary_calls():
+    for part in (plain_archives, sums_about_the_limit, bad_lines_about_a_sum, random_sums):
+        for archive in part():
+            yield "S", (archive,)
+
+
 def all_calls():
     refused = refused_generators, refused_runs, one_way, refused_archives
     accepted = long_sequences, wide_calls, printed_tables, valid_calls, reading_calls, archive_calls, remaking_calls
-    parts = bounds, *refused, *accepted, gap_calls, places_calls, variety_calls, prime_calls
+    parts = bounds, *refused, *accepted, gap_calls, places_calls, variety_calls, prime_calls, summary_calls
     return dict.fromkeys((code, tuple(args)) for part in parts for code, args in part())
 
 

@@ -138,6 +138,15 @@ pub struct Location {
     pub position: u64,
 }
 
+/// How much an archive holds.
+#[derive(Clone, Copy, Debug, PartialEq, Eq, Hash)]
+pub struct Summary {
+    /// How many lines.
+    pub line_count: u64,
+    /// The sum of their counts.
+    pub total: u64,
+}
+
 /// The value of a reply, or its refusal.
 #[inline]
 fn value(reply: raw::Value) -> Result<u64, Refusal> {
@@ -401,10 +410,31 @@ pub fn line(archive: &[u8], line: u64) -> &[u8] {
 #[inline]
 pub fn lookup(archive: &[u8], value: u64) -> Result<Option<Location>, Refused> {
     let raw::LookupReply { refusal, line, found, position } = raw::lookup(archive, value);
-    match Refusal::of(refusal) {
-        Ok(()) => Ok((found != 0).then_some(Location { line, position })),
-        Err(refusal) => Err(Refused { refusal, line }),
-    }
+    Refused::of(refusal, line).map(|()| (found != 0).then_some(Location { line, position }))
+}
+
+/// How many lines the archive has, and the sum of their counts. The whole archive is checked first, so
+/// that a sum above 2^64 − 1 is refused only if every line has passed.
+///
+/// ```
+/// use noonpasture::{summary, Refusal, Refused, Summary};
+///
+/// let archive = b"4,5,3,1,0,16\n10,371,995,73,100,8\n";
+/// assert_eq!(summary(archive), Ok(Summary { line_count: 2, total: 24 }));
+/// assert_eq!(summary(b""), Ok(Summary { line_count: 0, total: 0 }));
+///
+/// let most = b"4,5,3,1,0,18446744073709551614\n4,6,1,1,0,1\n";
+/// assert_eq!(summary(most), Ok(Summary { line_count: 2, total: u64::MAX }));
+/// let refused = summary(b"4,5,3,1,0,18446744073709551614\n4,6,1,1,0,2\n").unwrap_err();
+/// assert_eq!(refused, Refused { refusal: Refusal::TotalOverflow, line: 0 });
+/// assert_eq!(refused.to_string(), "the sum of the counts is above 2^64 - 1");
+/// let refused = summary(b"4,5,3,1,0,18446744073709551614\n4,6,1,1,0,2\n4,5\n").unwrap_err();
+/// assert_eq!(refused, Refused { refusal: Refusal::MalformedLine, line: 3 });
+/// ```
+#[inline]
+pub fn summary(archive: &[u8]) -> Result<Summary, Refused> {
+    let raw::SummaryReply { refusal, line, line_count, total } = raw::summary(archive);
+    Refused::of(refusal, line).map(|()| Summary { line_count, total })
 }
 
 /// The examples of the repository's README.

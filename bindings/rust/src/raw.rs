@@ -74,6 +74,16 @@ pub struct Part {
     pub length: u64,
 }
 
+/// `line` is 0 or the line that the refusal concerns.
+#[repr(C)]
+#[derive(Clone, Copy, Debug, Default, PartialEq, Eq)]
+pub struct SummaryReply {
+    pub refusal: u64,
+    pub line: u64,
+    pub line_count: u64,
+    pub total: u64,
+}
+
 mod foreign {
     use super::*;
 
@@ -91,6 +101,7 @@ mod foreign {
         pub fn np_remake(run: Run, position: u64, values: *mut u64, capacity: usize) -> Value;
         pub fn np_line(archive: *const u8, length: usize, line: u64) -> Part;
         pub fn np_lookup(archive: *const u8, length: usize, value: u64) -> LookupReply;
+        pub fn np_summary(archive: *const u8, length: usize) -> SummaryReply;
     }
 }
 
@@ -159,4 +170,9 @@ pub fn line(archive: &[u8], line: u64) -> Part {
 #[inline]
 pub fn lookup(archive: &[u8], value: u64) -> LookupReply {
     unsafe { foreign::np_lookup(archive.as_ptr(), archive.len(), value) }
+}
+
+#[inline]
+pub fn summary(archive: &[u8]) -> SummaryReply {
+    unsafe { foreign::np_summary(archive.as_ptr(), archive.len()) }
 }

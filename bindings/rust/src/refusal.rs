@@ -17,11 +17,12 @@ pub enum Refusal {
     NotInvertible,
     BufferTooShort,
     PlacesOutOfRange,
+    TotalOverflow,
 }
 
 impl Refusal {
     /// All of them, in the order of their numbers, which begin with 1.
-    pub const ALL: [Refusal; 9] = [
+    pub const ALL: [Refusal; 10] = [
         Refusal::ArchiveTooLong,
         Refusal::MalformedLine,
         Refusal::WidthOutOfRange,
@@ -31,6 +32,7 @@ impl Refusal {
         Refusal::NotInvertible,
         Refusal::BufferTooShort,
         Refusal::PlacesOutOfRange,
+        Refusal::TotalOverflow,
     ];
 
     /// ```
@@ -66,6 +68,7 @@ impl Display for Refusal {
             Refusal::NotInvertible => "the multiplier is even: a predecessor or a gap needs an odd one",
             Refusal::BufferTooShort => "the buffer is shorter than the line",
             Refusal::PlacesOutOfRange => "the number of places is 0 or above the width",
+            Refusal::TotalOverflow => "the sum of the counts is above 2^64 - 1",
         })
     }
 }
@@ -77,6 +80,14 @@ impl Error for Refusal {}
 pub struct Refused {
     pub refusal: Refusal,
     pub line: u64,
+}
+
+impl Refused {
+    /// Of a reply's first field and its line: nothing if the first is 0.
+    #[inline]
+    pub(crate) fn of(number: u64, line: u64) -> Result<(), Refused> {
+        Refusal::of(number).map_err(|refusal| Refused { refusal, line })
+    }
 }
 
 impl Display for Refused {

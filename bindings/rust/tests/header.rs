@@ -6,7 +6,9 @@ use std::mem::{offset_of, size_of};
 use std::path::Path;
 use std::process::Command;
 
-use noonpasture::raw::{GapReply, IndexReply, LookupReply, OrbitReply, Part, PlacesReply, RunReply, Value};
+use noonpasture::raw::{
+    GapReply, IndexReply, LookupReply, OrbitReply, Part, PlacesReply, RunReply, SummaryReply, Value,
+};
 use noonpasture::{Generator, Refusal, Run, ARCHIVE_MAX, LINE_MAX, VERSION};
 
 /// A text of the C program, the printf format of what it gives, and what that has to be.
@@ -58,6 +60,7 @@ fn facts() -> Vec<Fact> {
     layout!(facts, "np_run_reply", RunReply { refusal, run });
     layout!(facts, "np_lookup_reply", LookupReply { refusal, line, found, position });
     layout!(facts, "np_part", Part { start, length });
+    layout!(facts, "np_summary_reply", SummaryReply { refusal, line, line_count, total });
     for refusal in Refusal::ALL {
         let name = constant(refusal);
         facts.push(number(name.clone(), refusal.number() as usize));

@@ -16,6 +16,7 @@ use Rattle.archive.specs.Archive.{linesOf, runsIn, archiveOf, numbered}
 use Rattle.archive.specs.Check.{refusedAt, firstRefused, checkOf}
 use Rattle.archive.specs.Line.{lineAt, placeFrom, placeOf}
 use Rattle.archive.specs.Lookup.{positionOf, firstShowing, lookupOf, foundAt, foundNone, lookupRefused}
+use Rattle.archive.specs.Summary.{totalOf, summaryGiven, summaryRefused, runsSummary, summaryOf}
 
 abbrev run : ℕ → ℕ → ℕ → ℕ → ℕ → ℕ → Run
 run n a c x s l =
@@ -94,6 +95,39 @@ refusals :
 unfolding lookupOf firstShowing positionOf least shows element step
     checkOf firstRefused linesOf readOf isLine numbersFrom fieldsLine digitsOf lastDigits runRefusal refusalOf modulus
 refusals = refl
+
+-- 2 lines and 24 numbers; nothing in the empty archive; refused as in the lookup
+summaries :
+    map summaryOf (two ∷ [] ∷ damaged)
+    ≡ summaryGiven 2 24
+    ∷ summaryGiven 0 0
+    ∷ summaryRefused 2 3
+    ∷ summaryRefused 2 3
+    ∷ summaryRefused 2 3
+    ∷ summaryRefused 2 1
+    ∷ summaryRefused 2 1
+    ∷ summaryRefused 2 3
+    ∷ summaryRefused 2 1
+    ∷ summaryRefused 5 1
+    ∷ []
+unfolding summaryOf runsSummary totalOf
+    checkOf firstRefused linesOf readOf isLine numbersFrom fieldsLine digitsOf lastDigits runRefusal refusalOf modulus
+summaries = refl
+
+-- a sum of 2^64 − 1, and of 2^64; behind that a bad line, which comes first
+abbrev long : List ℕ
+long = ascii "4,5,3,1,0,18446744073709551600\n"
+
+totals :
+    map summaryOf
+    ((long ++ ascii "4,5,3,1,0,15\n")
+    ∷ (long ++ ascii "4,5,3,1,0,16\n")
+    ∷ (long ++ ascii "4,5,3,1,0,16\n65,5,3,1,0,16\n")
+    ∷ [])
+    ≡ summaryGiven 2 18446744073709551615 ∷ summaryRefused 10 0 ∷ summaryRefused 3 3 ∷ []
+unfolding summaryOf runsSummary totalOf
+    checkOf firstRefused linesOf readOf isLine numbersFrom fieldsLine digitsOf lastDigits runRefusal refusalOf modulus
+totals = refl
 
 abbrev part : ℕ → ℕ → Part
 part start length = record { start = start; length = length }

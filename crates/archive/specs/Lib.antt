@@ -4,5 +4,6 @@ pub mod Archive
 pub mod Check
 pub mod Line
 pub mod Lookup
+pub mod Summary
 pub mod Searching
 pub mod Parts

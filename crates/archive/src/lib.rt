@@ -1,13 +1,15 @@
-// The archive: its check, its lines, and the lookup.
+// The archive: its check, its lines, the lookup and the summary.
 ghost use Rattle.archive.specs.Check.{CheckPromise, checkReply};
 ghost use Rattle.archive.specs.Line.{LinePromise, PartPromise};
 ghost use Rattle.archive.specs.Lookup.{LookupPromise, replyOf};
+ghost use Rattle.archive.specs.Summary.{SummaryPromise, summaryReply};
 use generator::Refusal;
 use lines::RunAnswer;
 
 pub mod parts;
 pub mod places;
 pub mod plain;
+pub mod totals;
 
 pub enum ArchiveCheck {
     Accepted,
@@ -28,6 +30,21 @@ pub struct LookupReply {
     pub line: u64,
     pub found: u64,
     pub position: u64,
+}
+
+// The number of lines and the sum of their counts.
+pub enum SummaryAnswer {
+    Sum(u64, u64),
+    Refused(Refusal, u64),
+}
+
+// The same in plain numbers: the refusal's number, 0 for none, and its line; zeros beside a refusal.
+#[repr(C)]
+pub struct SummaryReply {
+    pub refusal: u64,
+    pub line: u64,
+    pub line_count: u64,
+    pub total: u64,
 }
 
 // A part of the archive, by its first byte and its length.
@@ -91,4 +108,15 @@ pub fn lookup(archive: &[u8], value: u64) -> LookupAnswer
         return LookupAnswer::Refused(refusal, number);
     }
     places::earliest(archive, value)
+}
+
+// How many lines the archive has, and the sum of their counts.
+pub fn summary(archive: &[u8]) -> SummaryAnswer
+    ensures { λ r. ⌜ SummaryPromise (now (archive .entry)) (summaryReply r) ⌝ }
+{
+    let verdict = checked(archive);
+    if let ArchiveCheck::Refused(refusal, number) = verdict {
+        return SummaryAnswer::Refused(refusal, number);
+    }
+    totals::summed(archive)
 }

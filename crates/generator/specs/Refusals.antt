@@ -20,6 +20,7 @@ numberOf refusal.ValueOutOfRange = 6  -- misfit
 numberOf refusal.NotInvertible = 7  -- one-way
 numberOf refusal.BufferTooShort = 8  -- short sheet
 numberOf refusal.PlacesOutOfRange = 9  -- places
+numberOf refusal.TotalOverflow = 10  -- total
 
 -- The number that a check gives, 0 where it accepts.
 abbrev pub checkNumber : Check → ℕ

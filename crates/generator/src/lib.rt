@@ -34,6 +34,7 @@ pub enum Refusal {
     NotInvertible,
     BufferTooShort,
     PlacesOutOfRange,
+    TotalOverflow,
 }
 
 pub enum Check {

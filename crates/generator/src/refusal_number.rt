@@ -16,5 +16,6 @@ pub fn number(refusal: Refusal) -> u64
         Refusal::NotInvertible => 7,
         Refusal::BufferTooShort => 8,
         Refusal::PlacesOutOfRange => 9,
+        Refusal::TotalOverflow => 10,
     }
 }

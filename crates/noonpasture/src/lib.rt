@@ -16,9 +16,12 @@ ghost use Rattle.lines.specs.Variety.{VarietyPromise};
 ghost use Rattle.lines.specs.Remake.{RemakePromise};
 ghost use Rattle.archive.specs.Line.{PartPromise};
 ghost use Rattle.archive.specs.Lookup.{LookupPromise};
+ghost use Rattle.archive.specs.Summary.{SummaryPromise};
 use archive::LookupReply;
 use archive::Part;
+use archive::SummaryReply;
 use archive::plain::of_lookup;
+use archive::plain::of_summary;
 use generator::Generator;
 use generator::ValueReply;
 use generator::plain::of_value;
@@ -136,4 +139,12 @@ pub extern "C" fn np_lookup(archive: &[u8], value: u64) -> LookupReply
     ensures { λ r. ⌜ LookupPromise (now (archive .entry)) value r ⌝ }
 {
     of_lookup(archive::lookup(archive, value))
+}
+
+// How many lines the archive has, and the sum of their counts.
+#[no_mangle]
+pub extern "C" fn np_summary(archive: &[u8]) -> SummaryReply
+    ensures { λ r. ⌜ SummaryPromise (now (archive .entry)) r ⌝ }
+{
+    of_summary(archive::summary(archive))
 }

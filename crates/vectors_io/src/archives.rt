@@ -3,8 +3,9 @@ use crate::numbers::Bytes;
 use crate::numbers::read_bytes;
 use crate::replies::Reply;
 use archive::plain::of_lookup;
+use archive::plain::of_summary;
 
-// The reply to a call on an archive: a number, and the archive's bytes.
+// The reply to a call on a line or a value: its number, and the archive's bytes.
 pub fn reply(letter: u8, n: &[u64]) -> Reply {
     let mut buffer = [0u8; 256];
     if n.len() == 0 {
@@ -31,4 +32,14 @@ fn lookup(archive: &[u8], number: u64) -> Reply {
 fn line(archive: &[u8], number: u64) -> Reply {
     let part = archive::line_part(archive, number);
     Reply::Two(part.start as u64, part.length as u64)
+}
+
+// The reply to the call on the archive's bytes alone.
+pub fn summary(n: &[u64]) -> Reply {
+    let mut buffer = [0u8; 256];
+    let Bytes::Count(count) = read_bytes(n, &mut buffer) else {
+        return Reply::Unreadable;
+    };
+    let r = of_summary(archive::summary(&buffer[0..count]));
+    Reply::Four(r.refusal, r.line, r.line_count, r.total)
 }

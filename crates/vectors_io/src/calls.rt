@@ -31,6 +31,7 @@ pub fn reply(letter: u8, n: &[u64]) -> Reply {
         b'O' => orbit(n),
         b'P' => predecessor(n),
         b'R' => read_line(n),
+        b'S' => archives::summary(n),
         b'V' => variety(n),
         b'W' => write_line(n),
         _ => Reply::Unreadable,

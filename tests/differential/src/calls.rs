@@ -1,7 +1,7 @@
 //! The arguments and replies of the calls, and what the implementations beside the library share.
 
 pub use noonpasture::raw::{
-    GapReply, IndexReply, LookupReply, OrbitReply, Part, PlacesReply, RunReply, Value,
+    GapReply, IndexReply, LookupReply, OrbitReply, Part, PlacesReply, RunReply, SummaryReply, Value,
 };
 pub use noonpasture::{Generator, Run};
 
@@ -14,6 +14,7 @@ pub const VALUE_OUT_OF_RANGE: u64 = 6;
 pub const NOT_INVERTIBLE: u64 = 7;
 pub const BUFFER_TOO_SHORT: u64 = 8;
 pub const PLACES_OUT_OF_RANGE: u64 = 9;
+pub const TOTAL_OVERFLOW: u64 = 10;
 
 pub const ARCHIVE_LIMIT: usize = 65_536;
 

@@ -375,6 +375,19 @@ pub fn lookup(archive: &[u8], number: u64) -> LookupReply {
     }
 }
 
+/// The sum of all counts is made in 128 bits, and only then compared with the largest of 64.
+pub fn summary(archive: &[u8]) -> SummaryReply {
+    let runs = match runs(archive) {
+        Ok(runs) => runs,
+        Err((refusal, line)) => return SummaryReply { refusal, line, line_count: 0, total: 0 },
+    };
+    let total: u128 = runs.iter().map(|run| u128::from(run.count)).sum();
+    match total.try_into() {
+        Ok(total) => SummaryReply { refusal: 0, line: 0, line_count: runs.len() as u64, total },
+        Err(_) => SummaryReply { refusal: TOTAL_OVERFLOW, ..SummaryReply::default() },
+    }
+}
+
 #[cfg(test)]
 mod tests {
     use super::*;
@@ -439,6 +452,10 @@ mod tests {
             "F" => {
                 let r = lookup(&bytes(1), n[0]);
                 vec![r.refusal, r.line, r.found, r.position]
+            }
+            "S" => {
+                let r = summary(&bytes(0));
+                vec![r.refusal, r.line, r.line_count, r.total]
             }
             _ => reply_on_generator(code, n),
         }

@@ -429,17 +429,37 @@ fn place_in(run: Run, line: u64, number: u64) -> Option<LookupReply> {
     (position < run.count).then_some(LookupReply { refusal: 0, line, found: 1, position })
 }
 
+/// The refusal and the line that it concerns, if there is one.
+fn check(archive: &[u8]) -> Result<(), (u64, u64)> {
+    if archive.len() > ARCHIVE_LIMIT {
+        return Err((ARCHIVE_TOO_LONG, 0));
+    }
+    each_run(archive, |_, _| None::<()>).map(|_| ())
+}
+
 /// The whole archive is checked first, then searched.
 #[inline(never)]
 pub fn lookup(archive: &[u8], number: u64) -> LookupReply {
-    if archive.len() > ARCHIVE_LIMIT {
-        return LookupReply { refusal: ARCHIVE_TOO_LONG, ..LookupReply::default() };
-    }
-    let checked = each_run(archive, |_, _| None::<()>);
-    let found = checked.and_then(|_| each_run(archive, |run, line| place_in(run, line, number)));
+    let found = check(archive).and_then(|()| each_run(archive, |run, line| place_in(run, line, number)));
     match found {
         Ok(place) => place.unwrap_or_default(),
         Err((refusal, line)) => LookupReply { refusal, line, ..LookupReply::default() },
+    }
+}
+
+/// The whole archive is checked first, then read again for its counts, as far as their sum fits.
+#[inline(never)]
+pub fn summary(archive: &[u8]) -> SummaryReply {
+    let (mut line_count, mut total) = (0, 0u64);
+    let add = |run: Run, line| {
+        let (sum, overflows) = total.overflowing_add(run.count);
+        (line_count, total) = (line, sum);
+        overflows.then_some(TOTAL_OVERFLOW)
+    };
+    match check(archive).and_then(|()| each_run(archive, add)) {
+        Ok(None) => SummaryReply { refusal: 0, line: 0, line_count, total },
+        Ok(Some(refusal)) => SummaryReply { refusal, ..SummaryReply::default() },
+        Err((refusal, line)) => SummaryReply { refusal, line, ..SummaryReply::default() },
     }
 }
 
@@ -489,6 +509,15 @@ mod tests {
                 let (ours, theirs) = (lookup(&archive.bytes, number), model::lookup(&archive.bytes, number));
                 assert_eq!(ours, theirs, "{number} in {}", archive.bytes.escape_ascii());
             }
+        }
+    }
+
+    #[test]
+    fn summary_agrees_with_the_model() {
+        let mut r = Random::new(10);
+        for _ in 0..20_000 {
+            let archive = samples::archive_to_sum(&mut r, samples::mixed_run);
+            assert_eq!(summary(&archive), model::summary(&archive), "{}", archive.escape_ascii());
         }
     }
 }

@@ -285,17 +285,56 @@ fn numbers_for(r: &mut Random, runs: &[Run], count: usize) -> Vec<u64> {
     (0..count).map(|_| one()).collect()
 }
 
-/// Up to 40 lines, one time in four with a damaged one.
-pub fn archive(r: &mut Random, make_run: MakeRun, numbers: usize) -> Archive {
-    let most = r.below(41);
-    let runs: Vec<Run> = (0..r.below(most + 1)).map(|_| make_run(r)).collect();
-    let numbers = numbers_for(r, &runs, numbers);
+/// The lines of the runs, one time in four with a damaged one.
+fn lines_of(r: &mut Random, runs: &[Run]) -> Vec<u8> {
     let mut lines: Vec<Vec<u8>> = runs.iter().map(line_of).collect();
     if !lines.is_empty() && r.one_in(4) {
         let at = r.below(lines.len() as u64) as usize;
         lines[at] = damaged_line(r, lines[at].clone());
     }
-    Archive { bytes: lines.concat(), numbers }
+    lines.concat()
+}
+
+/// Up to 40 lines.
+pub fn archive(r: &mut Random, make_run: MakeRun, numbers: usize) -> Archive {
+    let most = r.below(41);
+    let runs: Vec<Run> = (0..r.below(most + 1)).map(|_| make_run(r)).collect();
+    let numbers = numbers_for(r, &runs, numbers);
+    Archive { bytes: lines_of(r, &runs), numbers }
+}
+
+/// The same run with another count, from an earlier index on if it would go too far.
+fn with_count(run: Run, count: u64) -> Run {
+    Run { first: run.first.min(u64::MAX - count), count, ..run }
+}
+
+/// A run of at most 100 numbers.
+pub fn small_run(r: &mut Random) -> Run {
+    let run = mixed_run(r);
+    with_count(run, run.count.min(100))
+}
+
+/// Gives the runs counts whose sum is 2^64 − 2 to 2^64 + 1, or as many as one run may have: 1, half of what is
+/// left, or any, and the last of them the rest.
+fn sum_to_about_2_64(r: &mut Random, runs: &mut [Run]) {
+    let mut left = (1 << 64) - 2 + u128::from(r.below(4));
+    for (at, run) in runs.iter_mut().enumerate().rev() {
+        let most = (left - at as u128).min(u64::MAX.into()) as u64;
+        let choices = [1, 1 + most / 2, 1 + r.below(most), 1 + r.any() % most];
+        let count = if at == 0 { most } else { r.pick(&choices) };
+        *run = with_count(*run, count);
+        left -= u128::from(count);
+    }
+}
+
+/// Up to eight lines: with counts as they come, or with a sum of about 2^64.
+pub fn archive_to_sum(r: &mut Random, make_run: MakeRun) -> Vec<u8> {
+    let make_run = r.pick(&[make_run, small_run]);
+    let mut runs: Vec<Run> = (0..r.below(9)).map(|_| make_run(r)).collect();
+    if r.one_in(2) {
+        sum_to_about_2_64(r, &mut runs);
+    }
+    lines_of(r, &runs)
 }
 
 /// An accepted run whose line has this length, from 13 to 85 bytes.

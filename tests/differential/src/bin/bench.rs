@@ -6,8 +6,8 @@
 //! Both sides get the same inputs in turn, round by round; a ratio is the median over the rounds.
 //! Buffers are not cleared first. With `--plain` there are no headings, tabs between the fields and
 //! more digits; with ROWS only the rows that begin with this text, as `lookup` or `index, distance`.
-//! Without the feature `index-places` the rows of that call are left out, without `prime-modulus` those of
-//! width 0.
+//! Without the features `index-places` and `summary` the rows of these calls are left out, without
+//! `prime-modulus` those of width 0.
 
 use std::env;
 use std::fmt::Display;
@@ -424,6 +424,33 @@ mod prime_modulus {
     }
 }
 
+/// The rows of the summary. They have random numbers of their own as well.
+#[cfg(feature = "summary")]
+mod summaries {
+    use super::*;
+
+    /// Its line has about 17 bytes.
+    fn short_run(r: &mut Random) -> Run {
+        let [multiplier, increment, seed] = [r.bits(4), r.bits(4), r.bits(4)];
+        let generator = Generator { width: 4, multiplier, increment, seed };
+        Run { generator, first: r.below(10_000), count: 1 + r.below(100) }
+    }
+
+    fn summary(archive: &[u8]) -> Timing {
+        measured(&[archive], library::summary, same_method::summary)
+    }
+
+    pub fn rows(out: &Output) {
+        let r = &mut Random::new(SEED + 4);
+        out.heading("summary", "Rust");
+        for (make_run, bytes_of) in [(short_run as Make<Run>, 17), (wide_run, 95)] {
+            let (bytes, _) = archive(r, make_run, ARCHIVE_LIMIT);
+            let input = format!("{} bytes in lines of about {bytes_of}", bytes.len());
+            out.row("summary", input, || summary(&bytes));
+        }
+    }
+}
+
 fn main() {
     let (flags, words): (Vec<_>, Vec<_>) = env::args().skip(1).partition(|word| word == "--plain");
     let out = Output { plain: !flags.is_empty(), rows: words.join(" ") };
@@ -437,4 +464,6 @@ fn main() {
     places::rows(&out);
     #[cfg(feature = "prime-modulus")]
     prime_modulus::rows(&out);
+    #[cfg(feature = "summary")]
+    summaries::rows(&out);
 }

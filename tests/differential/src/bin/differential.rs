@@ -1,7 +1,7 @@
 //! Compares every call of the proved library with the model: on all generators of widths 1 to 5 and all
 //! their low bits, at widths 1 to 4 on all short runs for the variety and all pairs of numbers for the
-//! gap, at width 0 on every digit of the index by itself, and on random calls, accepted and refused.
-//! Ends with status 1 at the first difference.
+//! gap, at width 0 on every digit of the index by itself, for the summary on chosen sums, cut archives and
+//! every changed byte, and on random calls, accepted and refused. Ends with status 1 at the first difference.
 //!
 //!     cargo run --release --bin differential
 
@@ -37,10 +37,11 @@ enum Kind {
     ReadLine,
     Line,
     Lookup,
+    Summary,
     Remake,
 }
 
-const KINDS: [&str; 14] = [
+const KINDS: [&str; 15] = [
     "element",
     "orbit",
     "index",
@@ -54,14 +55,15 @@ const KINDS: [&str; 14] = [
     "read_line",
     "line",
     "lookup",
+    "summary",
     "remake",
 ];
 
 /// What replies are counted by: an answer, a refusal by its number, or nothing, which is never,
 /// none, the empty part or no number remade.
-const OUTCOMES: [&str; 11] = ["answer", "1", "2", "3", "4", "5", "6", "7", "8", "9", "nothing"];
+const OUTCOMES: [&str; 12] = ["answer", "1", "2", "3", "4", "5", "6", "7", "8", "9", "10", "nothing"];
 const ANSWER: usize = 0;
-const NOTHING: usize = 10;
+const NOTHING: usize = 11;
 
 trait Reply: PartialEq + Debug {
     fn refusal(&self) -> u64;
@@ -92,6 +94,12 @@ impl Reply for OrbitReply {
 }
 
 impl Reply for RunReply {
+    fn refusal(&self) -> u64 {
+        self.refusal
+    }
+}
+
+impl Reply for SummaryReply {
     fn refusal(&self) -> u64 {
         self.refusal
     }
@@ -291,6 +299,10 @@ impl Tally {
     fn lookup(&mut self, archive: &[u8], number: u64) {
         let (library, model) = (library::lookup(archive, number), model::lookup(archive, number));
         self.compare(Kind::Lookup, &(number, Bytes(archive)), library, model);
+    }
+
+    fn summary(&mut self, archive: &[u8]) {
+        self.compare(Kind::Summary, &Bytes(archive), library::summary(archive), model::summary(archive));
     }
 }
 
@@ -589,6 +601,82 @@ fn random_prime_indices(share: u64) -> Tally {
     tally
 }
 
+// Summaries: sums about 2^64, bad lines among them, archives about as long as they may be; every beginning of
+// some archives, and each of their bytes changed to every other.
+
+/// Different lines, of even multipliers and of width 0 too, with these counts.
+fn lines_with(counts: &[u64]) -> Vec<Vec<u8>> {
+    let kinds = [[64, 5, 3], [64, 6, 1], [0, 16_807, 0]].into_iter().cycle();
+    let runs = counts.iter().zip(1..).zip(kinds).map(|((&count, seed), [width, multiplier, increment])| {
+        Run::from([width, multiplier, increment, seed, 0, count])
+    });
+    runs.map(|run| line_of(&run)).collect()
+}
+
+/// By so many lines of the same count, but for the first or the last, which has the rest as well.
+fn chosen_sums(tally: &mut Tally) {
+    for lines in (2..=40).chain([100, 500, 1000, 1900]) {
+        for sum in (1u128 << 64) - 2..=(1 << 64) + 2 {
+            let share = (sum / lines as u128) as u64;
+            let mut counts = vec![share; lines];
+            counts[0] += (sum % lines as u128) as u64;
+            tally.summary(&lines_with(&counts).concat());
+            counts.reverse();
+            tally.summary(&lines_with(&counts).concat());
+        }
+    }
+}
+
+/// Of refusals 2 to 5.
+const BAD_LINES: [&[u8]; 5] =
+    [b"4,5,3,1,0\n", b"65,5,3,1,0,16\n", b"4,16,3,1,0,16\n", b"0,16807,0,0,0,16\n", b"4,5,3,1,0,0\n"];
+
+/// Each at every place of archives whose sum is small, the largest, too large at once, and too large at last.
+fn bad_lines_among_sums(tally: &mut Tally) {
+    const MAX: u64 = u64::MAX;
+    for counts in [[1, 2, 3, 4], [1, MAX - 6, 2, 3], [MAX, MAX, 1, 1], [1, 1, MAX - 2, 1]] {
+        for bad in BAD_LINES {
+            for place in 0..=counts.len() {
+                let mut lines = lines_with(&counts);
+                lines.insert(place, bad.to_vec());
+                tally.summary(&lines.concat());
+            }
+        }
+    }
+}
+
+fn cut_and_changed(tally: &mut Tally) {
+    for counts in [[16, 8], [u64::MAX - 9, 9], [u64::MAX - 9, 10]] {
+        let archive = lines_with(&counts).concat();
+        (0..=archive.len()).for_each(|end| tally.summary(&archive[..end]));
+        for at in 0..archive.len() {
+            for byte in 0..=u8::MAX {
+                let mut changed = archive.clone();
+                changed[at] = byte;
+                tally.summary(&changed);
+            }
+        }
+    }
+}
+
+fn long_summaries(tally: &mut Tally) {
+    let mut r = Random::new(SEED + 3 * SHARES);
+    for length in ARCHIVE_LIMIT - 8..ARCHIVE_LIMIT + 8 {
+        let archive = samples::archive_of_length(&mut r, samples::small_run, length, 0).bytes;
+        tally.summary(&archive);
+        tally.summary(&samples::damaged(&mut r, archive));
+    }
+}
+
+fn chosen_summaries() -> Tally {
+    let mut tally = Tally::default();
+    chosen_sums(&mut tally);
+    bad_lines_among_sums(&mut tally);
+    cut_and_changed(&mut tally);
+    long_summaries(&mut tally);
+    tally
+}
+
 // Random calls.
 
 /// Makes the generators of random calls.
@@ -657,6 +745,7 @@ fn on_archive(r: &mut Random, tally: &mut Tally, archive: &samples::Archive) {
         let line_numbers = [r.below(10), r.below(42), r.below(1500), r.any()];
         tally.line(&archive.bytes, r.pick(&line_numbers));
     }
+    tally.summary(&archive.bytes);
 }
 
 fn random_archives(r: &mut Random, tally: &mut Tally, make_run: MakeRun, calls: u64) {
@@ -677,6 +766,15 @@ fn long_archives(r: &mut Random, tally: &mut Tally, make_run: MakeRun) {
     }
 }
 
+/// Of each archive, and of the same with one thing changed.
+fn random_summaries(r: &mut Random, tally: &mut Tally, make_run: MakeRun, calls: u64) {
+    for _ in 0..calls / 2 {
+        let archive = samples::archive_to_sum(r, make_run);
+        tally.summary(&archive);
+        tally.summary(&samples::damaged(r, archive));
+    }
+}
+
 /// So many calls of each kind.
 fn random_calls_on(mut r: Random, make: Make, make_run: MakeRun, calls: u64) -> Tally {
     let mut tally = Tally::default();
@@ -687,6 +785,7 @@ fn random_calls_on(mut r: Random, make: Make, make_run: MakeRun, calls: u64) -> 
     random_remakes(&mut r, &mut tally, make, calls);
     random_gaps(&mut r, &mut tally, make, calls);
     random_places(&mut r, &mut tally, make, calls);
+    random_summaries(&mut r, &mut tally, make_run, calls);
     tally
 }
 
@@ -719,6 +818,7 @@ fn main() {
     chosen_varieties().print("varieties, chosen generators");
     shared(all_pairs).print("all pairs, widths 1 to 4");
     chosen_periods().print("periods of 1, 2, 2^63 and 2^64");
+    chosen_summaries().print("summaries, chosen archives");
     shared(random_calls).print("random calls");
     prime_digits().print("width 0, digits of the index");
     chosen_prime_calls().print("width 0, chosen calls");

@@ -1,0 +1,140 @@
+-- The summary. Its loop is a walk over the lines whose state is the sum so far: the lines and the sum that the walk has come
+-- to, with those of the lines left, are those of the archive. A sum above 2^64 − 1 stays so, whatever is added to it.
+use mathlib.Core.Path.{_≡_, refl, sym, ap, ap₂, _∙_, subst}
+use mathlib.Core.Logic.{by-cases}
+use mathlib.Core.List.{List, [], _∷_, map}
+use Prim.Native.Nat.{ℕ, zero, suc, _+_, _-_, _^_, _≤_, _<_}
+use native.Mathlib.Decide.{decLt}
+use native.Mathlib.Omega.{arith}
+use lib.ListN.{length, take, drop}
+use borrow.Author.Tests.{lt-ltb, le-ltb}
+use Rattle.generator.specs.declared.Refusal.{Refusal}
+use Rattle.generator.specs.Refusals.{numberOf}
+use Rattle.generator.proofs.Replies.{number-suc}
+use Rattle.lines.specs.declared.Run.{Run}
+use Rattle.lines.specs.ReadLine.{runIn}
+use Rattle.archive.specs.declared.SummaryReply.{SummaryReply}
+use Rattle.archive.specs.Archive.{linesOf, runsIn, IsArchive}
+use Rattle.archive.specs.Check.{CheckReply, refusedAt, checkOf}
+use Rattle.archive.specs.Summary.{totalOf, summaryGiven, summaryRefused, runsSummary, summaryOf, SummaryPromise}
+use Rattle.archive.specs.Parts.{firstPart}
+use Rattle.archive.proofs.Folding.{Fold, fold-line, fold-next, fold-end}
+use Rattle.archive.proofs.Checking.{long-check, check-accepts}
+
+-- The summary of some runs, by whether the sum fits a word.
+pub sum-fits : (runs : List Run) → totalOf runs < 2 ^ 64 → runsSummary runs ≡ summaryGiven (length runs) (totalOf runs)
+unfolding runsSummary
+sum-fits runs l = rw (lt-ltb (totalOf runs) (2 ^ 64) l)
+
+pub sum-large : (runs : List Run) → 2 ^ 64 ≤ totalOf runs → runsSummary runs ≡ summaryRefused 10 0
+unfolding runsSummary
+sum-large runs l = rw (le-ltb (totalOf runs) (2 ^ 64) l)
+
+-- The loop.
+
+-- the lines and the sum so far, with those of the lines left
+abbrev pub summing : ℕ → ℕ → List (List ℕ) → ℕ × ℕ
+summing k total lines = (k + length (map runIn lines), total + totalOf (map runIn lines))
+
+module _ {bytes : List ℕ} {at total : ℕ} (n : ℕ) (w : Fold summing 0 bytes at (n + 1) total) where
+  module _ {end : ℕ} {run : Run} (l : at < length bytes) (e : end ≡ at + length (firstPart (drop at bytes)))
+      (r : runIn (take (end - at) (drop at bytes)) ≡ run) where
+    -- the count of the line that was read
+    counted : (runs : List Run) → totalOf (runIn (take (end - at) (drop at bytes)) ∷ runs) ≡ run .count + totalOf runs
+    unfolding totalOf
+    counted runs = ap (λ (q : Run). q .count + totalOf runs) r
+
+    pub sum-next : Fold summing 0 bytes end (n + 1 + 1) (total + run .count)
+    sum-next =
+        fold-next w l e (total + run .count)
+        (λ lines. ap₂ (λ (i j : ℕ). (i, j)) (omega arith) (omega (arith, counted (map runIn lines))))
+
+    pub sum-over : 2 ^ 64 ≤ total + run .count → summaryRefused 10 0 ≡ runsSummary (runsIn bytes)
+    sum-over h =
+        sym
+        (sum-large (runsIn bytes)
+        (omega (arith, ap (λ (p : ℕ × ℕ). p .1) (fold-line w l e), counted (map runIn (linesOf (drop end bytes))))))
+
+  pub sum-end : length bytes ≤ at → total < 2 ^ 64 → summaryGiven n total ≡ runsSummary (runsIn bytes)
+  unfolding totalOf
+  sum-end l h =
+      let ends = fold-end w l in
+      let lines : n ≡ length (runsIn bytes) = omega (arith, ap (λ (p : ℕ × ℕ). p .0) ends) in
+      let sum : total ≡ totalOf (runsIn bytes) = omega (arith, ap (λ (p : ℕ × ℕ). p .1) ends) in
+      ap₂ summaryGiven lines sum ∙ sym (sum-fits (runsIn bytes) (omega arith))
+
+-- The promise of the call.
+
+-- by whether the check refuses
+summary-accepted : (bytes : List ℕ) → checkOf bytes .refusal ≡ 0 → summaryOf bytes ≡ runsSummary (runsIn bytes)
+unfolding summaryOf
+summary-accepted bytes z = rw (z, summaryOf)
+
+summary-declined : (bytes : List ℕ) {n line : ℕ} → checkOf bytes ≡ refusedAt (suc n) line → summaryOf bytes ≡ summaryRefused (suc n) line
+unfolding summaryOf
+summary-declined bytes {n} e =
+    let number = ap (λ (c : CheckReply). c .refusal) e in
+    rw (number, summaryOf) (ap (summaryRefused (suc n)) (ap (λ (c : CheckReply). c .line) e))
+
+-- more than 65,536 bytes, whatever they are
+pub summary-long : (bytes : List ℕ) → 65536 < length bytes → summaryOf bytes ≡ summaryRefused 1 0
+summary-long bytes l = summary-declined bytes (long-check bytes l)
+
+-- an archive is accepted, and its runs are those of the bytes
+of-runs : {bytes : List ℕ} (runs : List Run) → IsArchive bytes runs → summaryOf bytes ≡ runsSummary runs
+of-runs {bytes} runs is =
+    let o = check-accepts bytes .others runs is in
+    summary-accepted bytes (o .0) ∙ ap runsSummary (o .1)
+
+-- any other bytes are not
+of-none : (bytes : List ℕ) → ((runs : List Run) → IsArchive bytes runs → ⊥) →
+    (summaryOf bytes ≡ summaryRefused (checkOf bytes .refusal) (checkOf bytes .line)) × (summaryOf bytes .refusal ≡ 0 → ⊥)
+unfolding summaryOf
+of-none bytes none = go (checkOf bytes .refusal) refl
+  where
+    go : (n : ℕ) → checkOf bytes .refusal ≡ n →
+        (summaryOf bytes ≡ summaryRefused (checkOf bytes .refusal) (checkOf bytes .line)) × (summaryOf bytes .refusal ≡ 0 → ⊥)
+    go zero e = absurd (none (runsIn bytes) (check-accepts bytes .archive e))
+    go (suc n) e = rw (e, summaryOf) (refl, λ z. omega arith)
+
+summary-meaning : (bytes : List ℕ) → SummaryPromise bytes (summaryOf bytes)
+summary-meaning bytes =
+    record {
+      equals = refl;
+      of-archive = λ runs is l. of-runs runs is ∙ sum-fits runs l;
+      of-large = λ runs is l. of-runs runs is ∙ sum-large runs l;
+      of-others = of-none bytes;
+    }
+
+summary-promise : {bytes : List ℕ} {reply : SummaryReply} → reply ≡ summaryOf bytes → SummaryPromise bytes reply
+summary-promise {bytes} e = subst (SummaryPromise bytes) (sym e) (summary-meaning bytes)
+
+-- past the check, and where it refuses
+pub summary-summed : {bytes : List ℕ} {reply : SummaryReply} → checkOf bytes .refusal ≡ 0 → reply ≡ runsSummary (runsIn bytes) →
+    SummaryPromise bytes reply
+summary-summed {bytes} z e = summary-promise (e ∙ sym (summary-accepted bytes z))
+
+pub summary-refused : {bytes : List ℕ} (x : Refusal) {line : ℕ} → refusedAt (numberOf x) line ≡ checkOf bytes →
+    SummaryPromise bytes (summaryRefused (numberOf x) line)
+summary-refused {bytes} x {line} e =
+    let k = number-suc x .1 in
+    summary-promise
+    (ap (λ (n : ℕ). summaryRefused n line) k ∙ sym (summary-declined bytes (sym e ∙ ap (λ (n : ℕ). refusedAt n line) k)))
+
+-- Of an archive that the summary accepts, the check does too, and the sum fits a word.
+pub summary-given : (bytes : List ℕ) {lines total : ℕ} → summaryGiven lines total ≡ summaryOf bytes →
+    (checkOf bytes .refusal ≡ 0) × (total ≡ totalOf (runsIn bytes)) × (total < 2 ^ 64)
+summary-given bytes {lines} {total} e = go (checkOf bytes .refusal) refl
+  where
+    declined : (n : ℕ) → checkOf bytes .refusal ≡ suc n → checkOf bytes ≡ refusedAt (suc n) (checkOf bytes .line)
+    declined n z = ap (λ (m : ℕ). refusedAt m (checkOf bytes .line)) z
+
+    go : (n : ℕ) → checkOf bytes .refusal ≡ n → (checkOf bytes .refusal ≡ 0) × (total ≡ totalOf (runsIn bytes)) × (total < 2 ^ 64)
+    go zero z =
+        let given = e ∙ summary-accepted bytes z in
+        by-cases (decLt (totalOf (runsIn bytes)) (2 ^ 64))
+        (λ l.
+        let same : total ≡ totalOf (runsIn bytes) = ap (λ (r : SummaryReply). r .total) (given ∙ sum-fits (runsIn bytes) l) in
+        (z, same, omega arith))
+        (λ d. absurd (omega (arith, ap (λ (r : SummaryReply). r .refusal) (given ∙ sum-large (runsIn bytes) (omega arith)))))
+    go (suc n) z = absurd (omega (arith, ap (λ (r : SummaryReply). r .refusal) (e ∙ summary-declined bytes (declined n z))))

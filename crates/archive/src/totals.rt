@@ -1,0 +1,31 @@
+// The total of an accepted archive's counts.
+ghost use mathlib.Core.Path.{_≡_};
+ghost use Rattle.archive.specs.Archive.{runsIn};
+ghost use Rattle.archive.specs.Check.{checkOf};
+ghost use Rattle.archive.specs.Summary.{runsSummary, summaryReply};
+use crate::SummaryAnswer;
+use crate::parts::part_end;
+use generator::Refusal;
+use lines::plain::of_run;
+
+// The lines counted and their counts added up, as long as the sum fits a word: a sum that does not, never fits again.
+pub fn summed(archive: &[u8]) -> SummaryAnswer
+    requires { ⌜ checkOf (now archive) .refusal ≡ 0 ⌝ }
+    ensures { λ r. ⌜ summaryReply r ≡ runsSummary (runsIn (now (archive .entry))) ⌝ }
+{
+    let mut at = 0;
+    let mut line_count = 0;
+    let mut total = 0;
+    while at < archive.len() {
+        let end = part_end(archive, at);
+        let run = of_run(lines::read_line(&archive[at..end])).run;
+        let count = run.count;
+        if u64::MAX - total < count {
+            return SummaryAnswer::Refused(Refusal::TotalOverflow, 0);
+        }
+        total += count;
+        at = end;
+        line_count += 1;
+    }
+    SummaryAnswer::Sum(line_count, total)
+}

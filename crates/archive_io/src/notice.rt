@@ -53,7 +53,7 @@ pub fn write_pair(buf: &mut [u8], first: u64, second: u64) -> usize
     line::write(buf, &[first, second])
 }
 
-fn write_word(buf: &mut [u8], word: &[u8]) -> usize
+pub fn write_word(buf: &mut [u8], word: &[u8]) -> usize
     requires { ⌜ length (now word) ≤ length (now buf) ⌝ }
     ensures { λ r. ⌜ FrontWritten (now (word .entry)) (now (buf .entry)) (now (buf .exit)) r ⌝ }
 {

@@ -129,6 +129,21 @@ digits-length =
     longer v d p h most zero b = absurd (omega arith)
     longer v d p h most (suc k) b = simp length-append (omega (arith, most k (omega arith)))
 
+-- with k digits a number is below 10 ^ k, so a smaller one has no more
+digits-below : (v : ℕ) → v < 10 ^ length (digitsOf v)
+digits-below =
+    digits-induction (λ v ds. v < 10 ^ length ds) (λ d h. omega arith)
+    (λ v d p h b.
+    let e : length (digitsOf v ++ ((48 + d) ∷ [])) ≡ suc (length (digitsOf v)) = simp length-append (omega arith) in
+    rw e (omega arith))
+
+pub digits-fewer : {v w : ℕ} → v ≤ w → length (digitsOf v) ≤ length (digitsOf w)
+digits-fewer {v} {w} l = go (length (digitsOf w)) (digits-nonempty w) (digits-below w)
+  where
+    go : (k : ℕ) → 0 < k → w < 10 ^ k → length (digitsOf v) ≤ k
+    go zero p h = absurd (omega arith)
+    go (suc k) p h = digits-length v k (omega arith)
+
 -- the number of digits, one or four at a time
 pub length-one : (v : ℕ) → v < 10 → length (digitsOf v) ≡ 1
 length-one v h = ap length (digits-one v h)

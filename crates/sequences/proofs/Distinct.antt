@@ -4,7 +4,7 @@
 -- elements differ and each later one is one of them: so v is the smaller of n and t + P. From an index s on, what is left of
 -- the preperiod stands for t.
 use mathlib.Core.Path.{_≡_, refl, sym, ap, _∙_}
-use mathlib.Core.Bool.{Bool, true, false, not}
+use mathlib.Core.Bool.{Bool, true, false, cond, not}
 use mathlib.Core.Logic.{⊎-elim, by-cases}
 use Prim.Native.Nat.{ℕ, zero, suc, _+_, _-_, _≤_, _<_, min}
 use native.Mathlib.Nat.{add-suc, le-of-lt, lt-of-lt-of-le}
@@ -25,6 +25,20 @@ count-below {p} {limit} (suc n) below above =
     let e = count-below n below (λ i l b. above i l (omega arith)) in
     by-cases (decLt n limit) (λ l. rw (e, below n l) (omega arith))
     (λ l. rw (e, above n (omega arith) (omega arith)) (omega arith))
+
+-- no test holds at more than n numbers below n
+count-within : (p : ℕ → Bool) (n : ℕ) → countOf p n ≤ n
+unfolding countOf
+count-within p zero = omega arith
+count-within p (suc n) = omega (arith, count-within p n, one (p n))
+  where
+    one : (b : Bool) → cond b 1 0 ≤ 1
+    one true = omega arith
+    one false = omega arith
+
+pub distinct-within : (x : ℕ → ℕ) (n : ℕ) → distinctOf x n ≤ n
+unfolding distinctOf
+distinct-within x n = count-within (isNew x) n
 
 -- The definition counts what the meaning says, in any sequence.
 pub distinct-is : {x : ℕ → ℕ} {n v : ℕ} → Distinct x n v → distinctOf x n ≡ v

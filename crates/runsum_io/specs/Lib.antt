@@ -1,0 +1,3 @@
+-- What the contracts of this crate cite, and what has to be believed of the program.
+pub mod Text
+pub mod Output

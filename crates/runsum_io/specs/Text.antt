@@ -1,0 +1,24 @@
+-- The text that the program prints of an accepted archive (document 02, note 6; SCOPE 7.8).
+use mathlib.Core.List.{List, [], _∷_, _++_}
+use Prim.Native.Nat.{ℕ, suc}
+use Rattle.fields.specs.Line.{fieldsLine}
+use Rattle.fields.specs.Ascii.{ascii}
+use Rattle.lines.specs.declared.Run.{Run}
+use Rattle.lines.specs.Variety.{varietyOf}
+use Rattle.archive.specs.Archive.{runsIn}
+use Rattle.archive.specs.Summary.{totalOf}
+
+-- For each run its number, count and variety, the runs numbered from k on.
+abbrev pub runText : ℕ → Run → List ℕ
+runText k run = fieldsLine (k ∷ run .count ∷ varietyOf run ∷ [])
+
+unfoldable pub runsText : ℕ → List Run → List ℕ
+runsText k [] = []
+runsText k (run ∷ runs) = runText k run ++ runsText (suc k) runs
+
+-- And behind them the total.
+abbrev pub totalText : ℕ → List ℕ
+totalText total = ascii "total," ++ fieldsLine (total ∷ [])
+
+unfoldable pub summaryText : List ℕ → List ℕ
+summaryText bytes = runsText 1 (runsIn bytes) ++ totalText (totalOf (runsIn bytes))

@@ -27,12 +27,12 @@ use Rattle.archive.proofs.Folding.{Fold, fold-line, fold-next, fold-end
 -- The first line that is refused.
 
 -- a line is accepted, or refused
-refused-next : (k : ℕ) (line : List ℕ) (lines : List (List ℕ)) → readOf line .refusal ≡ 0 →
+pub refused-next : (k : ℕ) (line : List ℕ) (lines : List (List ℕ)) → readOf line .refusal ≡ 0 →
     firstRefused k (line ∷ lines) ≡ firstRefused (suc k) lines
 unfolding firstRefused
 refused-next k line lines e = rw (e, firstRefused)
 
-refused-here : (k : ℕ) (line : List ℕ) (lines : List (List ℕ)) → (readOf line .refusal ≡ 0 → ⊥) →
+pub refused-here : (k : ℕ) (line : List ℕ) (lines : List (List ℕ)) → (readOf line .refusal ≡ 0 → ⊥) →
     firstRefused k (line ∷ lines) ≡ refusedAt (readOf line .refusal) k
 unfolding firstRefused
 refused-here k line lines d = go (readOf line .refusal) refl

@@ -1,37 +1,70 @@
 -- A walk over the lines of an accepted archive: none of them is refused, so each that is read gives the next of its runs.
-use mathlib.Core.Path.{_≡_, sym, ap, _∙_}
-use mathlib.Core.List.{List}
+use mathlib.Core.Path.{_≡_, refl, sym, ap, _∙_, subst}
+use mathlib.Core.Logic.{by-cases}
+use mathlib.Core.List.{List, _∷_}
 use Prim.Native.Nat.{ℕ, _+_, _-_, _<_}
+use native.Mathlib.Decide.{ℕ-discrete}
+use native.Mathlib.Omega.{arith}
 use lib.ListN.{length, take, drop}
-use Rattle.lines.specs.declared.Run.{Run}
 use Rattle.lines.specs.declared.RunAnswer.{RunAnswer}
-use Rattle.lines.specs.declared.RunAnswer.the-variants.{Accepted, Refused}
 use Rattle.lines.specs.declared.RunReply.{RunReply}
 use Rattle.lines.specs.Run.{runRefusal}
-use Rattle.lines.specs.ReadLine.{ReadPromise, replyOf, runIn}
-use Rattle.lines.proofs.Reading.{read-run, read-same-run}
-use Rattle.archive.specs.Check.{checkOf}
-use Rattle.archive.specs.Parts.{firstPart}
-use Rattle.archive.proofs.Folding.{Fold}
-use Rattle.archive.proofs.Checking.{refusing, check-next}
-use Rattle.archive.proofs.Looking.{look-refused}
+use Rattle.lines.specs.ReadLine.{ReadPromise, replyOf, readOf, runIn}
+use Rattle.lines.proofs.Reading.{accepted-line, own-run}
+use Rattle.archive.specs.declared.parts.NextRun.{NextRun}
+use Rattle.archive.specs.Archive.{linesOf}
+use Rattle.archive.specs.Check.{CheckReply, firstRefused, checkOf}
+use Rattle.archive.specs.Parts.{firstPart, LineRun}
+use Rattle.archive.proofs.Splitting.{part-read, part-within, part-advances}
+use Rattle.archive.proofs.Folding.{Fold, fold-line, fold-next}
+use Rattle.archive.proofs.Checking.{refusing, refused-next, refused-here, check-lines}
 
--- the run is that of the line from `at` to `end`, it is accepted, and the walk goes on behind the line
-pub record NextRun (bytes : List ℕ) (at k end : ℕ) (run : Run) : Type 0 where
-  pub is : runIn (take (end - at) (drop at bytes)) ≡ run
-  pub accepted : runRefusal run ≡ 0
-  pub next : Fold refusing tt bytes end (k + 1) tt
+-- The line that was read, as it stands in the bytes.
+pub run-read : {bytes : List ℕ} {at end : ℕ} (answer : RunAnswer) {reply : RunReply} → at < length bytes →
+    readOf (firstPart (drop at bytes)) .refusal ≡ 0 → end ≡ at + length (firstPart (drop at bytes)) →
+    ReadPromise (take (end - at) (drop at bytes)) (replyOf answer) → reply ≡ replyOf answer →
+    LineRun bytes at (record { run = reply .run; end = end })
+run-read {bytes} {at} {end} answer {reply} l z e r same =
+    record { ends = e; is = is; accepted = ap runRefusal (sym is) ∙ accepted-line line z .0 }
+  where
+    line : List ℕ
+    line = firstPart (drop at bytes)
 
--- what is read there
-module _ {bytes : List ℕ} {at k end : ℕ} (z : checkOf bytes .refusal ≡ 0) (w : Fold refusing tt bytes at k tt) (l : at < length bytes)
-    (e : end ≡ at + length (firstPart (drop at bytes))) where
-  pub next-run : (answer : RunAnswer) {reply : RunReply} → ReadPromise (take (end - at) (drop at bytes)) (replyOf answer) →
-      reply ≡ replyOf answer → NextRun bytes at k end (reply .run)
-  next-run (Accepted run) r same =
-      let run-is = ap (λ (p : RunReply). p .run) (sym same) in
-      record {
-        is = read-same-run r ∙ run-is;
-        accepted = ap runRefusal (sym run-is) ∙ read-run r;
-        next = check-next w l e r;
-      }
-  next-run (Refused x) r same = absurd (look-refused z w l e x r)
+    promise : ReadPromise line reply
+    promise =
+        subst (λ (bs : List ℕ). ReadPromise bs reply) (part-read bytes l e)
+        (subst (ReadPromise (take (end - at) (drop at bytes))) (sym same) r)
+
+    is : runIn line ≡ reply .run
+    is =
+        ap (λ (bs : List ℕ). runIn bs) (promise .accepted (ap (λ (p : RunReply). p .refusal) (promise .equals) ∙ z) .line)
+        ∙ own-run (reply .run)
+
+-- The walk.
+module _ {bytes : List ℕ} {at : ℕ} {next : NextRun} (l : at < length bytes) (r : LineRun bytes at next) where
+  pub run-line : runIn (take (next .end - at) (drop at bytes)) ≡ next .run
+  run-line = ap (λ (bs : List ℕ). runIn bs) (part-read bytes l (r .ends)) ∙ r .is
+
+  -- less is left behind the line
+  pub run-advances : length bytes - next .end < length bytes - at
+  run-advances = omega (arith, part-advances bytes l (r .ends), part-within bytes l (r .ends))
+
+module _ {bytes : List ℕ} {at k : ℕ} (z : checkOf bytes .refusal ≡ 0) (w : Fold refusing tt bytes at k tt) (l : at < length bytes) where
+  -- the next line is accepted
+  pub run-accepted : readOf (firstPart (drop at bytes)) .refusal ≡ 0
+  run-accepted =
+      by-cases (ℕ-discrete (readOf line .refusal) 0) (λ y. y)
+      (λ d. absurd (d (sym (ap (λ (c : CheckReply). c .refusal) (first ∙ refused-here k line _ d)) ∙ check-lines bytes z .1)))
+    where
+      line : List ℕ
+      line = firstPart (drop at bytes)
+
+      first : firstRefused 1 (linesOf bytes) ≡ firstRefused k (line ∷ linesOf (drop (at + length line) bytes))
+      first =
+          fold-line w l refl ∙ ap (λ (bs : List ℕ). firstRefused k (bs ∷ linesOf (drop (at + length line) bytes))) (part-read bytes l refl)
+
+  -- and the walk goes on behind it
+  pub run-next : {next : NextRun} → LineRun bytes at next → Fold refusing tt bytes (next .end) (k + 1) tt
+  run-next r =
+      fold-next w l (r .ends) tt
+      (λ lines. refused-next k _ lines (ap (λ (bs : List ℕ). readOf bs .refusal) (part-read bytes l (r .ends)) ∙ run-accepted))

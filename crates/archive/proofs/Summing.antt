@@ -14,12 +14,14 @@ use Rattle.generator.proofs.Replies.{number-suc}
 use Rattle.lines.specs.declared.Run.{Run}
 use Rattle.lines.specs.ReadLine.{runIn}
 use Rattle.archive.specs.declared.SummaryReply.{SummaryReply}
+use Rattle.archive.specs.declared.parts.NextRun.{NextRun}
 use Rattle.archive.specs.Archive.{linesOf, runsIn, IsArchive}
 use Rattle.archive.specs.Check.{CheckReply, refusedAt, checkOf}
 use Rattle.archive.specs.Summary.{totalOf, summaryGiven, summaryRefused, runsSummary, summaryOf, SummaryPromise}
-use Rattle.archive.specs.Parts.{firstPart}
+use Rattle.archive.specs.Parts.{LineRun}
 use Rattle.archive.proofs.Folding.{Fold, fold-line, fold-next, fold-end}
 use Rattle.archive.proofs.Checking.{long-check, check-accepts}
+use Rattle.archive.proofs.Runs.{run-line}
 
 -- The summary of some runs, by whether the sum fits a word.
 pub sum-fits : (runs : List Run) → totalOf runs < 2 ^ 64 → runsSummary runs ≡ summaryGiven (length runs) (totalOf runs)
@@ -37,23 +39,22 @@ abbrev pub summing : ℕ → ℕ → List (List ℕ) → ℕ × ℕ
 summing k total lines = (k + length (map runIn lines), total + totalOf (map runIn lines))
 
 module _ {bytes : List ℕ} {at total : ℕ} (n : ℕ) (w : Fold summing 0 bytes at (n + 1) total) where
-  module _ {end : ℕ} {run : Run} (l : at < length bytes) (e : end ≡ at + length (firstPart (drop at bytes)))
-      (r : runIn (take (end - at) (drop at bytes)) ≡ run) where
+  module _ {next : NextRun} (l : at < length bytes) (r : LineRun bytes at next) where
     -- the count of the line that was read
-    counted : (runs : List Run) → totalOf (runIn (take (end - at) (drop at bytes)) ∷ runs) ≡ run .count + totalOf runs
+    counted : (runs : List Run) → totalOf (runIn (take (next .end - at) (drop at bytes)) ∷ runs) ≡ next .run .count + totalOf runs
     unfolding totalOf
-    counted runs = ap (λ (q : Run). q .count + totalOf runs) r
+    counted runs = ap (λ (q : Run). q .count + totalOf runs) (run-line l r)
 
-    pub sum-next : Fold summing 0 bytes end (n + 1 + 1) (total + run .count)
+    pub sum-next : Fold summing 0 bytes (next .end) (n + 1 + 1) (total + next .run .count)
     sum-next =
-        fold-next w l e (total + run .count)
+        fold-next w l (r .ends) (total + next .run .count)
         (λ lines. ap₂ (λ (i j : ℕ). (i, j)) (omega arith) (omega (arith, counted (map runIn lines))))
 
-    pub sum-over : 2 ^ 64 ≤ total + run .count → summaryRefused 10 0 ≡ runsSummary (runsIn bytes)
+    pub sum-over : 2 ^ 64 ≤ total + next .run .count → summaryRefused 10 0 ≡ runsSummary (runsIn bytes)
     sum-over h =
         sym
         (sum-large (runsIn bytes)
-        (omega (arith, ap (λ (p : ℕ × ℕ). p .1) (fold-line w l e), counted (map runIn (linesOf (drop end bytes))))))
+        (omega (arith, ap (λ (p : ℕ × ℕ). p .1) (fold-line w l (r .ends)), counted (map runIn (linesOf (drop (next .end) bytes))))))
 
   pub sum-end : length bytes ≤ at → total < 2 ^ 64 → summaryGiven n total ≡ runsSummary (runsIn bytes)
   unfolding totalOf

@@ -4,9 +4,8 @@ ghost use Rattle.archive.specs.Archive.{runsIn};
 ghost use Rattle.archive.specs.Check.{checkOf};
 ghost use Rattle.archive.specs.Summary.{runsSummary, summaryReply};
 use crate::SummaryAnswer;
-use crate::parts::part_end;
+use crate::parts::next_run;
 use generator::Refusal;
-use lines::plain::of_run;
 
 // The lines counted and their counts added up, as long as the sum fits a word: a sum that does not, never fits again.
 pub fn summed(archive: &[u8]) -> SummaryAnswer
@@ -17,14 +16,14 @@ pub fn summed(archive: &[u8]) -> SummaryAnswer
     let mut line_count = 0;
     let mut total = 0;
     while at < archive.len() {
-        let end = part_end(archive, at);
-        let run = of_run(lines::read_line(&archive[at..end])).run;
+        let next = next_run(archive, at);
+        let run = next.run;
         let count = run.count;
         if u64::MAX - total < count {
             return SummaryAnswer::Refused(Refusal::TotalOverflow, 0);
         }
         total += count;
-        at = end;
+        at = next.end;
         line_count += 1;
     }
     SummaryAnswer::Sum(line_count, total)

@@ -1,8 +1,8 @@
 -- What is printed, by the summary's reply: the text, for which the buffer has room, or the refusal. So is it for all that the
 -- file may hold, since an archive of more than 65,536 bytes is refused whatever follows.
-use mathlib.Core.Path.{_≡_, refl, sym, ap, _∙_, subst}
+use mathlib.Core.Path.{_≡_, sym, ap, _∙_, subst}
 use mathlib.Core.List.{List}
-use Prim.Native.Nat.{ℕ, zero, suc, _≤_, _<_}
+use Prim.Native.Nat.{ℕ, suc, _≤_, _<_}
 use native.Mathlib.Omega.{arith}
 use lib.ListN.{length}
 use Rattle.fields.specs.Codec.{FrontWritten}
@@ -21,7 +21,7 @@ use Rattle.archive_io.specs.declared.input.Rest.{Rest}
 use Rattle.archive_io.specs.declared.input.Rest.the-variants.{Nothing, Unknown, Failed}
 use Rattle.archive_io.specs.declared.notice.Notice.the-variants.{Refused, Unread}
 use Rattle.archive_io.specs.Notice.{noticeLine}
-use Rattle.archive_io.specs.Source.{Source, holds, unreadable}
+use Rattle.archive_io.specs.Source.{Source}
 use Rattle.archive_io.specs.Input.{Enough}
 use Rattle.archive_io.proofs.Deciding.{some-source, file-all, file-front, file-unread}
 use Rattle.archive_io.proofs.FrontWriting.{within}
@@ -51,7 +51,8 @@ module _ {bytes : List ℕ} (answer : SummaryAnswer) (p : SummaryPromise bytes (
         (checkOf bytes .refusal ≡ 0) × ((total ≡ totalOf (runsIn bytes)) × (length (summaryText bytes) ≤ size))
     text-asked {size} h =
         let g = summary-given bytes given in
-        let room : length (summaryText bytes) ≤ size = omega (arith, g .1, g .2, check-lines bytes (g .0) .0, text-short bytes (g .0) (omega (arith, g .1, g .2))) in
+        let short = text-short bytes (g .0) (omega (arith, g .1, g .2)) in
+        let room : length (summaryText bytes) ≤ size = omega (arith, check-lines bytes (g .0) .0, short) in
         (g .0, (g .1, room))
 
     pub text-told : {before after : List ℕ} {n : ℕ} → FrontWritten (summaryText bytes) before after n →

@@ -1,7 +1,6 @@
 -- What the program prints for document 01's archive and some others, computed.
 use mathlib.Core.Path.{_≡_, refl}
-use mathlib.Core.List.{List, [], _∷_, map}
-use Prim.Native.Nat.{ℕ}
+use mathlib.Core.List.{[], _∷_, map}
 use Rattle.sequences.specs.Least.{least}
 use Rattle.sequences.specs.Index.{indexOf}
 use Rattle.sequences.specs.Gap.{occurs}

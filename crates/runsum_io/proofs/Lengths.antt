@@ -1,9 +1,9 @@
 -- How long the text is. A line of the archive has a digit for each of five fields, the digits of its count and six marks. Its
 -- line of the text has the digits of its number, 19 at most, those of its count and of its variety, which has no more, and
 -- three marks: so no more than twice the bytes. The total has 20 digits at most.
-use mathlib.Core.Path.{_≡_, refl, sym, ap}
-use mathlib.Core.List.{List, [], _∷_, _++_}
-use Prim.Native.Nat.{ℕ, zero, suc, _+_, _*_, _^_, _≤_, _<_}
+use mathlib.Core.Path.{_≡_, ap}
+use mathlib.Core.List.{List, [], _∷_}
+use Prim.Native.Nat.{ℕ, suc, _+_, _*_, _^_, _≤_, _<_}
 use native.Mathlib.Omega.{arith}
 use lib.ListN.{length, length-append}
 use Rattle.sequences.proofs.Distinct.{distinct-within}
@@ -15,7 +15,7 @@ use Rattle.lines.specs.Run.{shows}
 use Rattle.lines.specs.Line.{lineOf}
 use Rattle.lines.specs.Variety.{varietyOf}
 use Rattle.lines.proofs.Runs.{line-length}
-use Rattle.archive.specs.Archive.{runsIn, archiveOf, IsArchive}
+use Rattle.archive.specs.Archive.{runsIn, archiveOf}
 use Rattle.archive.specs.Check.{checkOf}
 use Rattle.archive.specs.Summary.{totalOf}
 use Rattle.archive.proofs.Checking.{check-accepts}

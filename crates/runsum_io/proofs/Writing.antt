@@ -16,8 +16,10 @@ use Rattle.lines.specs.ReadLine.{runIn}
 use Rattle.lines.specs.Variety.{varietyOf, VarietyPromise}
 use Rattle.archive.specs.Archive.{linesOf, runsIn}
 use Rattle.archive.specs.Summary.{totalOf}
-use Rattle.archive.specs.Parts.{firstPart}
+use Rattle.archive.specs.declared.parts.NextRun.{NextRun}
+use Rattle.archive.specs.Parts.{LineRun}
 use Rattle.archive.proofs.Folding.{Fold, fold-start, fold-line, fold-next, fold-end}
+use Rattle.archive.proofs.Runs.{run-line}
 use Rattle.archive_io.proofs.FrontWriting.{line-behind}
 use Rattle.runsum_io.specs.Text.{runText, runsText, totalText, summaryText}
 
@@ -52,33 +54,36 @@ pub text-start : {bytes before : List ℕ} → TextSoFar bytes before before 0 1
 text-start = record { text = []; left = fold-start; written = record { whole = refl; count = refl } }
 
 module _ {bytes before buf : List ℕ} {at k n : ℕ} (t : TextSoFar bytes before buf at k n) where
-  module _ {end : ℕ} {run : Run} (l : at < length bytes) (e : end ≡ at + length (firstPart (drop at bytes)))
-      (r : runIn (take (end - at) (drop at bytes)) ≡ run) where
-    -- the line of the run that was read comes next
-    next : (lines : List (List ℕ)) →
-        texting k (t .text) (take (end - at) (drop at bytes) ∷ lines) ≡ texting (suc k) (t .text ++ runText k run) lines
-    next lines =
-        ap (λ (q : Run). t .text ++ runsText k (q ∷ map runIn lines)) r
-        ∙ ap (λ (l : List ℕ). t .text ++ l) (runs-first k run (map runIn lines))
-        ∙ sym (append-assoc (t .text) (runText k run) (runsText (suc k) (map runIn lines)))
+  module _ {next : NextRun} (l : at < length bytes) (r : LineRun bytes at next) where
+    -- its line of the text
+    abbrev line : List ℕ
+    line = runText k (next .run)
+
+    -- comes next
+    line-next : (lines : List (List ℕ)) →
+        texting k (t .text) (take (next .end - at) (drop at bytes) ∷ lines) ≡ texting (suc k) (t .text ++ line) lines
+    line-next lines =
+        ap (λ (q : Run). t .text ++ runsText k (q ∷ map runIn lines)) (run-line l r)
+        ∙ ap (λ (l : List ℕ). t .text ++ l) (runs-first k (next .run) (map runIn lines))
+        ∙ sym (append-assoc (t .text) line (runsText (suc k) (map runIn lines)))
 
     pub text-room : length (runsText 1 (runsIn bytes)) ≤ length before →
-        (n ≤ length buf) × (n + length (runText k run) ≤ length buf) × (length buf ≡ length before)
+        (n ≤ length buf) × (n + length (runText k (next .run)) ≤ length buf) × (length buf ≡ length before)
     text-room room =
-        let rest = runsText (suc k) (map runIn (linesOf (drop end bytes))) in
-        let whole : length (runsText 1 (runsIn bytes)) ≡ length ((t .text ++ runText k run) ++ rest) =
-        ap length (fold-line (t .left) l e ∙ next (linesOf (drop end bytes))) in
-        let line = length-append (t .text) (runText k run) in
-        let parts = length-append (t .text ++ runText k run) rest in
-        let kept = front-kept (t .written) (omega (arith, whole, line, parts)) in
-        omega (arith, whole, line, parts, kept, t .written .count)
+        let rest = runsText (suc k) (map runIn (linesOf (drop (next .end) bytes))) in
+        let whole : length (runsText 1 (runsIn bytes)) ≡ length ((t .text ++ line) ++ rest) =
+        ap length (fold-line (t .left) l (r .ends) ∙ line-next (linesOf (drop (next .end) bytes))) in
+        let front = length-append (t .text) line in
+        let parts = length-append (t .text ++ line) rest in
+        let kept = front-kept (t .written) (omega (arith, whole, front, parts)) in
+        omega (arith, whole, front, parts, kept, t .written .count)
 
-    pub text-next : {part : List ℕ} {m : ℕ} → FrontWritten (runText k run) (take (length buf - n) (drop n buf)) part m →
-        TextSoFar bytes before (take n buf ++ (part ++ drop (length buf - n) (drop n buf))) end (k + 1) (n + m)
+    pub text-next : {part : List ℕ} {m : ℕ} → FrontWritten (runText k (next .run)) (take (length buf - n) (drop n buf)) part m →
+        TextSoFar bytes before (take n buf ++ (part ++ drop (length buf - n) (drop n buf))) (next .end) (k + 1) (n + m)
     text-next f =
         record {
-          text = t .text ++ runText k run;
-          left = fold-next (t .left) l e (t .text ++ runText k run) next;
+          text = t .text ++ line;
+          left = fold-next (t .left) l (r .ends) (t .text ++ line) line-next;
           written = line-behind (t .written) f;
         }
 

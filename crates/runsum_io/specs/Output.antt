@@ -1,8 +1,7 @@
--- What the program prints, for everything that the file may hold (SCOPE 7.8).
+-- What the program prints, for everything that the file may hold (SCOPE 7.7).
 use mathlib.Core.List.{List}
 use Prim.Native.Nat.{ℕ, zero, suc}
 use Rattle.fields.specs.Codec.{FrontWritten}
-use Rattle.archive.specs.declared.SummaryReply.{SummaryReply}
 use Rattle.archive.specs.Summary.{summaryOf}
 use Rattle.archive_io.specs.declared.input.Rest.{Rest}
 use Rattle.archive_io.specs.declared.notice.Notice.the-variants.{Refused, Unread}

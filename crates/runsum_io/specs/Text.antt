@@ -1,4 +1,4 @@
--- The text that the program prints of an accepted archive (document 02, note 6; SCOPE 7.8).
+-- The text that the program prints of an accepted archive (document 02, note 6; SCOPE 7.7).
 use mathlib.Core.List.{List, [], _∷_, _++_}
 use Prim.Native.Nat.{ℕ, suc}
 use Rattle.fields.specs.Line.{fieldsLine}

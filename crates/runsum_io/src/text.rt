@@ -8,12 +8,11 @@ ghost use Rattle.archive.specs.Archive.{runsIn};
 ghost use Rattle.archive.specs.Check.{checkOf};
 ghost use Rattle.archive.specs.Summary.{totalOf};
 ghost use Rattle.runsum_io.specs.Text.{runText, runsText, totalText, summaryText};
-use archive::parts::part_end;
+use archive::parts::next_run;
 use archive_io::notice::write_word;
 use fields::line;
 use generator::plain::of_value;
 use lines::Run;
-use lines::plain::of_run;
 
 // The line of an accepted run: its number, count and variety.
 fn write_run(buf: &mut [u8], number: u64, run: Run) -> usize
@@ -35,10 +34,9 @@ fn write_runs(buf: &mut [u8], archive: &[u8]) -> usize
     let mut at = 0;
     let mut number = 1;
     while at < archive.len() {
-        let end = part_end(archive, at);
-        let run = of_run(lines::read_line(&archive[at..end])).run;
-        n += write_run(&mut buf[n..], number, run);
-        at = end;
+        let next = next_run(archive, at);
+        n += write_run(&mut buf[n..], number, next.run);
+        at = next.end;
         number += 1;
     }
     n

@@ -177,7 +177,7 @@ examples
 at_the_end
 questions
 question_first
-unread
+faults
 refusals
 wide
 prime_modulus

@@ -181,7 +181,7 @@ in_pieces() {
 }
 
 unwritable() {
-    local sentence='runsum: the summary could not be written'
+    local sentence='runsum: the answer could not be written'
     archive "$example"
     unwritten 'a summary' '' "$sentence"
     (cd "$folder" && timeout "$limit" "$program" </dev/null >&- 2>"$work/errors")

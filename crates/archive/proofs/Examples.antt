@@ -114,17 +114,24 @@ unfolding summaryOf runsSummary totalOf
     checkOf firstRefused linesOf readOf isLine numbersFrom fieldsLine digitsOf lastDigits runRefusal refusalOf modulus
 summaries = refl
 
--- a sum of 2^64 − 1, and of 2^64; behind that a bad line, which comes first
+-- an even multiplier and width 0; a sum of 2^64 − 1, and of 2^64; behind that a bad line, which comes first
 abbrev long : List ℕ
 long = ascii "4,5,3,1,0,18446744073709551600\n"
 
 totals :
     map summaryOf
-    ((long ++ ascii "4,5,3,1,0,15\n")
+    (ascii "4,2,0,1,3,10\n0,16807,0,1,0,3\n"
+    ∷ (long ++ ascii "4,5,3,1,0,15\n")
     ∷ (long ++ ascii "4,5,3,1,0,16\n")
     ∷ (long ++ ascii "4,5,3,1,0,16\n65,5,3,1,0,16\n")
+    ∷ (long ++ ascii "4,5,3,1,0,16\n4,5,3,1,0,0\n")
     ∷ [])
-    ≡ summaryGiven 2 18446744073709551615 ∷ summaryRefused 10 0 ∷ summaryRefused 3 3 ∷ []
+    ≡ summaryGiven 2 13
+    ∷ summaryGiven 2 18446744073709551615
+    ∷ summaryRefused 10 0
+    ∷ summaryRefused 3 3
+    ∷ summaryRefused 5 3
+    ∷ []
 unfolding summaryOf runsSummary totalOf
     checkOf firstRefused linesOf readOf isLine numbersFrom fieldsLine digitsOf lastDigits runRefusal refusalOf modulus
 totals = refl

@@ -2,7 +2,7 @@
 -- to, with those of the lines left, are those of the archive. A sum above 2^64 − 1 stays so, whatever is added to it.
 use mathlib.Core.Path.{_≡_, refl, sym, ap, ap₂, _∙_, subst}
 use mathlib.Core.Logic.{by-cases}
-use mathlib.Core.List.{List, [], _∷_, map}
+use mathlib.Core.List.{List, _∷_, map}
 use Prim.Native.Nat.{ℕ, zero, suc, _+_, _-_, _^_, _≤_, _<_}
 use native.Mathlib.Decide.{decLt}
 use native.Mathlib.Omega.{arith}
@@ -98,10 +98,35 @@ of-none bytes none = go (checkOf bytes .refusal) refl
     go zero e = absurd (none (runsIn bytes) (check-accepts bytes .archive e))
     go (suc n) e = rw (e, summaryOf) (refl, λ z. omega arith)
 
+-- what it accepts: the check does too, and the sum fits a word
+pub record Summed (bytes : List ℕ) : Type 0 where
+  pub checked : checkOf bytes .refusal ≡ 0
+  pub small : totalOf (runsIn bytes) < 2 ^ 64
+  pub given : summaryOf bytes ≡ summaryGiven (length (runsIn bytes)) (totalOf (runsIn bytes))
+
+pub summary-sums : (bytes : List ℕ) → summaryOf bytes .refusal ≡ 0 → Summed bytes
+summary-sums bytes none = go (checkOf bytes .refusal) refl
+  where
+    summed : checkOf bytes .refusal ≡ 0 → Summed bytes
+    summed z =
+        let runs = runsIn bytes in
+        by-cases (decLt (totalOf runs) (2 ^ 64))
+        (λ l. record { checked = z; small = l; given = summary-accepted bytes z ∙ sum-fits runs l })
+        (λ d.
+        let large = summary-accepted bytes z ∙ sum-large runs (omega arith) in
+        absurd (omega (arith, none, ap (λ (r : SummaryReply). r .refusal) large)))
+
+    go : (n : ℕ) → checkOf bytes .refusal ≡ n → Summed bytes
+    go zero z = summed z
+    go (suc n) z =
+        let declined = summary-declined bytes (ap (λ (m : ℕ). refusedAt m (checkOf bytes .line)) z) in
+        absurd (omega (arith, none, ap (λ (r : SummaryReply). r .refusal) declined))
+
 summary-meaning : (bytes : List ℕ) → SummaryPromise bytes (summaryOf bytes)
 summary-meaning bytes =
     record {
       equals = refl;
+      accepted = λ z. check-accepts bytes .archive (summary-sums bytes z .checked);
       of-archive = λ runs is l. of-runs runs is ∙ sum-fits runs l;
       of-large = λ runs is l. of-runs runs is ∙ sum-large runs l;
       of-others = of-none bytes;
@@ -121,21 +146,3 @@ summary-refused {bytes} x {line} e =
     let k = number-suc x .1 in
     summary-promise
     (ap (λ (n : ℕ). summaryRefused n line) k ∙ sym (summary-declined bytes (sym e ∙ ap (λ (n : ℕ). refusedAt n line) k)))
-
--- Of an archive that the summary accepts, the check does too, and the sum fits a word.
-pub summary-given : (bytes : List ℕ) {lines total : ℕ} → summaryGiven lines total ≡ summaryOf bytes →
-    (checkOf bytes .refusal ≡ 0) × (total ≡ totalOf (runsIn bytes)) × (total < 2 ^ 64)
-summary-given bytes {lines} {total} e = go (checkOf bytes .refusal) refl
-  where
-    declined : (n : ℕ) → checkOf bytes .refusal ≡ suc n → checkOf bytes ≡ refusedAt (suc n) (checkOf bytes .line)
-    declined n z = ap (λ (m : ℕ). refusedAt m (checkOf bytes .line)) z
-
-    go : (n : ℕ) → checkOf bytes .refusal ≡ n → (checkOf bytes .refusal ≡ 0) × (total ≡ totalOf (runsIn bytes)) × (total < 2 ^ 64)
-    go zero z =
-        let given = e ∙ summary-accepted bytes z in
-        by-cases (decLt (totalOf (runsIn bytes)) (2 ^ 64))
-        (λ l.
-        let same : total ≡ totalOf (runsIn bytes) = ap (λ (r : SummaryReply). r .total) (given ∙ sum-fits (runsIn bytes) l) in
-        (z, same, omega arith))
-        (λ d. absurd (omega (arith, ap (λ (r : SummaryReply). r .refusal) (given ∙ sum-large (runsIn bytes) (omega arith)))))
-    go (suc n) z = absurd (omega (arith, ap (λ (r : SummaryReply). r .refusal) (e ∙ summary-declined bytes (declined n z))))

@@ -42,10 +42,11 @@ summaryOf bytes =
       | suc n ↦ summaryRefused (suc n) (checkOf bytes .line)
     ]
 
--- The promise of the call: of an archive the number and the counts of its runs, or 10; of any other bytes the refusal of the
--- check.
+-- The promise of the call: of an archive how many runs it has and the sum of their counts, or 10; of any other bytes the
+-- refusal of the check. What is accepted is an archive.
 pub record SummaryPromise (bytes : List ℕ) (reply : SummaryReply) : Type 0 where
   pub equals : reply ≡ summaryOf bytes
+  pub accepted : reply .refusal ≡ 0 → IsArchive bytes (runsIn bytes)
   pub of-archive :
       (runs : List Run) → IsArchive bytes runs → totalOf runs < 2 ^ 64 → reply ≡ summaryGiven (length runs) (totalOf runs)
   pub of-large : (runs : List Run) → IsArchive bytes runs → 2 ^ 64 ≤ totalOf runs → reply ≡ summaryRefused 10 0

@@ -1,5 +1,5 @@
--- What each step of writing a line to the front of a buffer shows: a word is copied, two numbers take at most 42 bytes, and
--- what is written behind a word makes one line with it.
+-- What each step of writing to the front of a buffer shows: the buffer keeps its length, a word is copied, two numbers take at
+-- most 42 bytes, and what is written behind a word or a text makes one text with it.
 use mathlib.Core.Path.{_≡_, sym, ap, ap₂, _∙_}
 use mathlib.Core.List.{List, [], _∷_, _++_, append-assoc, append-nil}
 use Prim.Native.Nat.{ℕ, _+_, _-_, _^_, _≤_, _<_}
@@ -13,6 +13,12 @@ use Rattle.fields.proofs.Digits.{digits-length}
 
 pub within : {bytes before after : List ℕ} {n : ℕ} → FrontWritten bytes before after n → n ≤ length after
 within w = omega (arith, simp length-append at (ap length (w .whole)))
+
+-- the buffer is as long as before
+pub front-kept : {bytes before after : List ℕ} {n : ℕ} → FrontWritten bytes before after n → length bytes ≤ length before →
+    length after ≡ length before
+front-kept {bytes} {before} w l =
+    omega (arith, ap length (w .whole), length-append bytes (drop (length bytes) before), length-drop (length bytes) before)
 
 pub word-written :
     (word before after : List ℕ) (n : ℕ) → n ≡ length word

@@ -16,7 +16,7 @@ use Rattle.archive.specs.Archive.{runsIn}
 use Rattle.archive.specs.Check.{checkOf}
 use Rattle.archive.specs.Summary.{totalOf, summaryGiven, summaryRefused, summaryReply, summaryOf, SummaryPromise}
 use Rattle.archive.proofs.Checking.{check-lines}
-use Rattle.archive.proofs.Summing.{summary-long, summary-given}
+use Rattle.archive.proofs.Summing.{summary-long, summary-sums}
 use Rattle.archive_io.specs.declared.input.Rest.{Rest}
 use Rattle.archive_io.specs.declared.input.Rest.the-variants.{Nothing, Unknown, Failed}
 use Rattle.archive_io.specs.declared.notice.Notice.the-variants.{Refused, Unread}
@@ -47,19 +47,22 @@ module _ {bytes : List ℕ} (answer : SummaryAnswer) (p : SummaryPromise bytes (
     given : summaryGiven lines total ≡ summaryOf bytes
     given = ap (λ (a : SummaryAnswer). summaryReply a) (sym e) ∙ p .equals
 
+    none : summaryOf bytes .refusal ≡ 0
+    none = sym (ap (λ (r : SummaryReply). r .refusal) given)
+
     pub text-asked : {size : ℕ} → 131099 ≤ size →
         (checkOf bytes .refusal ≡ 0) × ((total ≡ totalOf (runsIn bytes)) × (length (summaryText bytes) ≤ size))
     text-asked {size} h =
-        let g = summary-given bytes given in
-        let short = text-short bytes (g .0) (omega (arith, g .1, g .2)) in
-        let room : length (summaryText bytes) ≤ size = omega (arith, check-lines bytes (g .0) .0, short) in
-        (g .0, (g .1, room))
+        let sums = summary-sums bytes none in
+        let room : length (summaryText bytes) ≤ size =
+        omega (arith, check-lines bytes (sums .checked) .0, text-short bytes none) in
+        (sums .checked, (ap (λ (r : SummaryReply). r .total) (given ∙ sums .given), room))
 
     pub text-told : {before after : List ℕ} {n : ℕ} → FrontWritten (summaryText bytes) before after n →
         FrontWritten (outputOf bytes) before after n
     text-told {before} {after} {n} w =
         subst (λ (text : List ℕ). FrontWritten text before after n)
-        (sym (output-text bytes (sym (ap (λ (r : SummaryReply). r .refusal) given)))) w
+        (sym (output-text bytes none)) w
 
   pub refusal-told : {x : Refusal} {number line : ℕ} {before after : List ℕ} {n : ℕ} → answer ≡ summary.Refused x line →
       number ≡ numberOf x → FrontWritten (noticeLine (Refused number line)) before after n →

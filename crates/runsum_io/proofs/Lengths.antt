@@ -16,10 +16,10 @@ use Rattle.lines.specs.Line.{lineOf}
 use Rattle.lines.specs.Variety.{varietyOf}
 use Rattle.lines.proofs.Runs.{line-length}
 use Rattle.archive.specs.Archive.{runsIn, archiveOf}
-use Rattle.archive.specs.Check.{checkOf}
 use Rattle.archive.specs.Summary.{totalOf}
 use Rattle.archive.proofs.Checking.{check-accepts}
-use Rattle.runsum_io.specs.Text.{runText, runsText, totalText, summaryText}
+use Rattle.archive.proofs.Summing.{summary-sums}
+use Rattle.runsum_io.specs.Text.{runText, runsText, totalText, summaryText, TextShort}
 use Rattle.runsum_io.proofs.Writing.{runs-first}
 
 -- A run's line of the text, beside its line of the archive.
@@ -33,7 +33,7 @@ run-length : (k : ℕ) (run : Run) →
 unfolding fieldsLine
 run-length k run = simp length-append (omega arith)
 
--- a line has 12 bytes and more
+-- a line has 11 bytes beside the digits of its count, and more
 line-some : (run : Run) → 11 + length (digitsOf (run .count)) ≤ length (lineOf run)
 line-some run =
     let g = run .generator in
@@ -77,16 +77,16 @@ unfolding fieldsLine
 total-short total h = simp length-append (omega (arith, digits-length total 19 (omega arith)))
 
 -- The whole text: twice the archive's bytes and 27 more at most.
-pub text-short : (bytes : List ℕ) → checkOf bytes .refusal ≡ 0 → totalOf (runsIn bytes) < 2 ^ 64 →
-    length (summaryText bytes) ≤ 2 * length bytes + 27
+pub text-short : (bytes : List ℕ) → TextShort bytes
 unfolding summaryText
-text-short bytes z h =
-    let is = check-accepts bytes .archive z in
+text-short bytes none =
+    let sums = summary-sums bytes none in
+    let is = check-accepts bytes .archive (sums .checked) in
     let size = ap length (is .lines) in
     simp length-append
     (omega (
       arith,
       runs-short 1 (runsIn bytes) (omega (arith, size, is .short, runs-few (runsIn bytes))),
-      total-short (totalOf (runsIn bytes)) h,
+      total-short (totalOf (runsIn bytes)) (sums .small),
       size,
     ))

@@ -5,7 +5,7 @@ use mathlib.Core.Path.{_≡_, refl, sym, ap, _∙_, subst}
 use mathlib.Core.List.{List, [], _∷_, _++_, map, append-assoc, append-nil}
 use Prim.Native.Nat.{ℕ, suc, _+_, _-_, _≤_, _<_}
 use native.Mathlib.Omega.{arith}
-use lib.ListN.{length, take, drop, length-append, length-drop}
+use lib.ListN.{length, take, drop, length-append}
 use Rattle.fields.specs.Codec.{FrontWritten}
 use Rattle.generator.specs.declared.ValueAnswer.{ValueAnswer}
 use Rattle.generator.specs.declared.ValueReply.{ValueReply}
@@ -20,7 +20,7 @@ use Rattle.archive.specs.declared.parts.NextRun.{NextRun}
 use Rattle.archive.specs.Parts.{LineRun}
 use Rattle.archive.proofs.Folding.{Fold, fold-start, fold-line, fold-next, fold-end}
 use Rattle.archive.proofs.Runs.{run-line}
-use Rattle.archive_io.proofs.FrontWriting.{line-behind}
+use Rattle.archive_io.proofs.FrontWriting.{front-kept, line-behind}
 use Rattle.runsum_io.specs.Text.{runText, runsText, totalText, summaryText}
 
 -- the line of the first run comes before those of the others
@@ -33,12 +33,6 @@ pub variety-is : {run : Run} {reply : ValueReply} (answer : ValueAnswer) → run
     VarietyPromise run (valueOf answer) → reply ≡ valueOf answer → reply .value ≡ varietyOf run
 variety-is {run} answer z p e =
     ap (λ (r : ValueReply). r .value) (e ∙ p .equals ∙ ap (λ (n : ℕ). valueReply n (varietyOf run)) z)
-
--- a buffer with a text at its front is as long as before
-front-kept : {text before after : List ℕ} {n : ℕ} → FrontWritten text before after n → length text ≤ length before →
-    length after ≡ length before
-front-kept {text} {before} w l =
-    omega (arith, ap length (w .whole), length-append text (drop (length text) before), length-drop (length text) before)
 
 -- The loop.
 abbrev texting : ℕ → List ℕ → List (List ℕ) → List ℕ

@@ -1,12 +1,14 @@
 -- The text that the program prints of an accepted archive (document 02, note 6; SCOPE 7.7).
+use mathlib.Core.Path.{_≡_}
 use mathlib.Core.List.{List, [], _∷_, _++_}
-use Prim.Native.Nat.{ℕ, suc}
+use Prim.Native.Nat.{ℕ, suc, _+_, _*_, _≤_}
+use lib.ListN.{length}
 use Rattle.fields.specs.Line.{fieldsLine}
 use Rattle.fields.specs.Ascii.{ascii}
 use Rattle.lines.specs.declared.Run.{Run}
 use Rattle.lines.specs.Variety.{varietyOf}
 use Rattle.archive.specs.Archive.{runsIn}
-use Rattle.archive.specs.Summary.{totalOf}
+use Rattle.archive.specs.Summary.{totalOf, summaryOf}
 
 -- For each run its number, count and variety, the runs numbered from k on.
 abbrev pub runText : ℕ → Run → List ℕ
@@ -22,3 +24,7 @@ totalText total = ascii "total," ++ fieldsLine (total ∷ [])
 
 unfoldable pub summaryText : List ℕ → List ℕ
 summaryText bytes = runsText 1 (runsIn bytes) ++ totalText (totalOf (runsIn bytes))
+
+-- How long it can be, so that its space is fixed: `text-short` proves it for any bytes.
+abbrev pub TextShort : List ℕ → Type 0
+TextShort bytes = summaryOf bytes .refusal ≡ 0 → length (summaryText bytes) ≤ 2 * length bytes + 27

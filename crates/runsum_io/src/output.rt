@@ -18,7 +18,7 @@ pub fn print_output(archive: &[u8], beyond: Rest)
 {
     let mut buf = [0u8; 131099];
     let n = write_output(&mut buf, archive, beyond);
-    print(&buf[..n], b"runsum: the summary could not be written\n");
+    print(&buf[..n], b"runsum: the answer could not be written\n");
 }
 
 // Writes it from the first byte of the buffer on and answers how many bytes it wrote. An archive has at most 65,536 bytes,

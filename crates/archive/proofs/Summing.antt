@@ -24,11 +24,11 @@ use Rattle.archive.proofs.Checking.{long-check, check-accepts}
 use Rattle.archive.proofs.Runs.{run-line}
 
 -- The summary of some runs, by whether the sum fits a word.
-pub sum-fits : (runs : List Run) → totalOf runs < 2 ^ 64 → runsSummary runs ≡ summaryGiven (length runs) (totalOf runs)
+sum-fits : (runs : List Run) → totalOf runs < 2 ^ 64 → runsSummary runs ≡ summaryGiven (length runs) (totalOf runs)
 unfolding runsSummary
 sum-fits runs l = rw (lt-ltb (totalOf runs) (2 ^ 64) l)
 
-pub sum-large : (runs : List Run) → 2 ^ 64 ≤ totalOf runs → runsSummary runs ≡ summaryRefused 10 0
+sum-large : (runs : List Run) → 2 ^ 64 ≤ totalOf runs → runsSummary runs ≡ summaryRefused 10 0
 unfolding runsSummary
 sum-large runs l = rw (le-ltb (totalOf runs) (2 ^ 64) l)
 

@@ -30,7 +30,7 @@ abbrev pub summaryReply : SummaryAnswer → SummaryReply
 summaryReply (Sum lines total) = summaryGiven lines total
 summaryReply (Refused r line) = summaryRefused (numberOf r) line
 
--- The summary of some runs. 10: the sum is above 2^64 − 1; no line is to blame.
+-- The summary of some runs. 10, which concerns no line: the sum is above 2^64 − 1.
 unfoldable pub runsSummary : List Run → SummaryReply
 runsSummary runs = cond (ltb (totalOf runs) (2 ^ 64)) (summaryGiven (length runs) (totalOf runs)) (summaryRefused 10 0)
 

@@ -25,6 +25,6 @@ totalText total = ascii "total," ++ fieldsLine (total ∷ [])
 unfoldable pub summaryText : List ℕ → List ℕ
 summaryText bytes = runsText 1 (runsIn bytes) ++ totalText (totalOf (runsIn bytes))
 
--- How long it can be, so that its space is fixed: `text-short` proves it for any bytes.
+-- How long it can be, so that its space is fixed; `text-short` shows it of any bytes.
 abbrev pub TextShort : List ℕ → Type 0
 TextShort bytes = summaryOf bytes .refusal ≡ 0 → length (summaryText bytes) ≤ 2 * length bytes + 27

@@ -13,7 +13,7 @@ use Rattle.lines.specs.Run.{shows, runRefusal}
 use Rattle.lines.specs.ReadLine.{readOf}
 use Rattle.archive.specs.declared.Part.{Part}
 use Rattle.archive.specs.Archive.{linesOf, runsIn, archiveOf, numbered}
-use Rattle.archive.specs.Check.{refusedAt, firstRefused, checkOf}
+use Rattle.archive.specs.Check.{refusedAt, isAmong, firstRefused, checkOf}
 use Rattle.archive.specs.Line.{lineAt, placeFrom, placeOf}
 use Rattle.archive.specs.Lookup.{positionOf, firstShowing, lookupOf, foundAt, foundNone, lookupRefused}
 use Rattle.archive.specs.Summary.{totalOf, summaryGiven, summaryRefused, runsSummary, summaryOf}
@@ -70,51 +70,66 @@ checks :
     ∷ refusedAt 2 1
     ∷ refusedAt 5 1
     ∷ []
-unfolding checkOf firstRefused linesOf readOf isLine numbersFrom fieldsLine digitsOf lastDigits runRefusal refusalOf modulus
+unfolding checkOf firstRefused isAmong linesOf readOf isLine numbersFrom fieldsLine digitsOf lastDigits runRefusal refusalOf modulus
 checks = refl
 
--- 5 is at line 1, position 4; 49 at line 2, position 0; 985 and 16 nowhere
-lookups : map (lookupOf two) (5 ∷ 49 ∷ 985 ∷ 16 ∷ []) ≡ foundAt 1 4 ∷ foundAt 2 0 ∷ foundNone ∷ foundNone ∷ []
+-- equal lines, the first and the last of three, neighbours, and three of them; before a bad line and behind one; no twin: a
+-- last field with another last digit, and a line without its byte 10
+abbrev twins : List (List ℕ)
+twins =
+    (two ++ ascii "4,5,3,1,0,16\n")
+    ∷ (two ++ ascii "10,371,995,73,100,8\n")
+    ∷ ascii "4,5,3,1,0,16\n4,5,3,1,0,16\n4,5,3,1,0,16\n"
+    ∷ (two ++ ascii "4,5,3,1,0,16\n4,5,3\n")
+    ∷ (two ++ ascii "4,5,3,1,0,0\n4,5,3,1,0,16\n")
+    ∷ (two ++ ascii "4,5,3,1,0,17\n")
+    ∷ ascii "4,5,3,1,0,16\n4,5,3,1,0,16"
+    ∷ []
+
+twin-checks :
+    map checkOf twins
+    ≡ refusedAt 11 3
+    ∷ refusedAt 11 3
+    ∷ refusedAt 11 2
+    ∷ refusedAt 11 3
+    ∷ refusedAt 5 3
+    ∷ refusedAt 0 0
+    ∷ refusedAt 2 2
+    ∷ []
+unfolding checkOf firstRefused isAmong linesOf readOf isLine numbersFrom fieldsLine digitsOf lastDigits runRefusal refusalOf modulus
+twin-checks = refl
+
+-- 5 is at line 1, position 4; 49 at line 2, position 0; 985 and 16 nowhere; nothing in the empty archive
+lookups :
+    lookupOf [] 5 ∷ map (lookupOf two) (5 ∷ 49 ∷ 985 ∷ 16 ∷ [])
+    ≡ foundNone ∷ foundAt 1 4 ∷ foundAt 2 0 ∷ foundNone ∷ foundNone ∷ []
 unfolding lookupOf firstShowing positionOf least shows element step
-    checkOf firstRefused linesOf readOf isLine numbersFrom fieldsLine digitsOf lastDigits runRefusal refusalOf modulus
+    checkOf firstRefused isAmong linesOf readOf isLine numbersFrom fieldsLine digitsOf lastDigits runRefusal refusalOf modulus
 lookups = refl
 
--- the whole archive is checked first
-refusals :
-    map (λ bytes. lookupOf bytes 5) ([] ∷ damaged)
-    ≡ foundNone
-    ∷ lookupRefused 2 3
-    ∷ lookupRefused 2 3
-    ∷ lookupRefused 2 3
-    ∷ lookupRefused 2 1
-    ∷ lookupRefused 2 1
-    ∷ lookupRefused 2 3
-    ∷ lookupRefused 2 1
-    ∷ lookupRefused 5 1
-    ∷ []
-unfolding lookupOf firstShowing positionOf least shows element step
-    checkOf firstRefused linesOf readOf isLine numbersFrom fieldsLine digitsOf lastDigits runRefusal refusalOf modulus
-refusals = refl
-
--- 2 lines and 24 numbers; nothing in the empty archive; refused as in the lookup
-summaries :
-    map summaryOf (two ∷ [] ∷ damaged)
-    ≡ summaryGiven 2 24
-    ∷ summaryGiven 0 0
-    ∷ summaryRefused 2 3
-    ∷ summaryRefused 2 3
-    ∷ summaryRefused 2 3
-    ∷ summaryRefused 2 1
-    ∷ summaryRefused 2 1
-    ∷ summaryRefused 2 3
-    ∷ summaryRefused 2 1
-    ∷ summaryRefused 5 1
-    ∷ []
+-- 2 lines and 24 numbers; nothing in the empty archive
+summaries : map summaryOf (two ∷ [] ∷ []) ≡ summaryGiven 2 24 ∷ summaryGiven 0 0 ∷ []
 unfolding summaryOf runsSummary totalOf
-    checkOf firstRefused linesOf readOf isLine numbersFrom fieldsLine digitsOf lastDigits runRefusal refusalOf modulus
+    checkOf firstRefused isAmong linesOf readOf isLine numbersFrom fieldsLine digitsOf lastDigits runRefusal refusalOf modulus
 summaries = refl
 
--- an even multiplier and width 0; a sum of 2^64 − 1, and of 2^64; behind that a bad line, which comes first
+-- the whole archive is checked first: a lookup and a summary are refused as the check refuses
+abbrev refused : List (List ℕ)
+refused = (two ++ ascii "4,5,3,1,0,16\n") ∷ damaged
+
+lookup-refusals :
+    map (λ bytes. lookupOf bytes 5) refused ≡ map (λ bytes. lookupRefused (checkOf bytes .refusal) (checkOf bytes .line)) refused
+unfolding lookupOf
+    checkOf firstRefused isAmong linesOf readOf isLine numbersFrom fieldsLine digitsOf lastDigits runRefusal refusalOf modulus
+lookup-refusals = refl
+
+summary-refusals :
+    map summaryOf refused ≡ map (λ bytes. summaryRefused (checkOf bytes .refusal) (checkOf bytes .line)) refused
+unfolding summaryOf
+    checkOf firstRefused isAmong linesOf readOf isLine numbersFrom fieldsLine digitsOf lastDigits runRefusal refusalOf modulus
+summary-refusals = refl
+
+-- an even multiplier and width 0; a sum of 2^64 − 1, and of 2^64; behind that a bad line or an equal one, which comes first
 abbrev long : List ℕ
 long = ascii "4,5,3,1,0,18446744073709551600\n"
 
@@ -125,15 +140,17 @@ totals :
     ∷ (long ++ ascii "4,5,3,1,0,16\n")
     ∷ (long ++ ascii "4,5,3,1,0,16\n65,5,3,1,0,16\n")
     ∷ (long ++ ascii "4,5,3,1,0,16\n4,5,3,1,0,0\n")
+    ∷ (long ++ long)
     ∷ [])
     ≡ summaryGiven 2 13
     ∷ summaryGiven 2 18446744073709551615
     ∷ summaryRefused 10 0
     ∷ summaryRefused 3 3
     ∷ summaryRefused 5 3
+    ∷ summaryRefused 11 2
     ∷ []
 unfolding summaryOf runsSummary totalOf
-    checkOf firstRefused linesOf readOf isLine numbersFrom fieldsLine digitsOf lastDigits runRefusal refusalOf modulus
+    checkOf firstRefused isAmong linesOf readOf isLine numbersFrom fieldsLine digitsOf lastDigits runRefusal refusalOf modulus
 totals = refl
 
 abbrev part : ℕ → ℕ → Part
@@ -142,14 +159,14 @@ part start length = record { start = start; length = length }
 -- the lines by number and by place; of a refused archive none
 numbers : map (lineAt two) (0 ∷ 1 ∷ 2 ∷ 3 ∷ []) ≡ [] ∷ ascii "4,5,3,1,0,16\n" ∷ ascii "10,371,995,73,100,8\n" ∷ [] ∷ []
 unfolding lineAt numbered
-    checkOf firstRefused linesOf readOf isLine numbersFrom fieldsLine digitsOf lastDigits runRefusal refusalOf modulus
+    checkOf firstRefused isAmong linesOf readOf isLine numbersFrom fieldsLine digitsOf lastDigits runRefusal refusalOf modulus
 numbers = refl
 
 places : map (placeOf two) (0 ∷ 1 ∷ 2 ∷ 3 ∷ []) ≡ part 0 0 ∷ part 0 13 ∷ part 13 20 ∷ part 0 0 ∷ []
 unfolding placeOf placeFrom
-    checkOf firstRefused linesOf readOf isLine numbersFrom fieldsLine digitsOf lastDigits runRefusal refusalOf modulus
+    checkOf firstRefused isAmong linesOf readOf isLine numbersFrom fieldsLine digitsOf lastDigits runRefusal refusalOf modulus
 places = refl
 
-none : lineAt (two ++ ascii "\n") 1 ≡ []
-unfolding lineAt checkOf firstRefused linesOf readOf isLine numbersFrom fieldsLine digitsOf lastDigits runRefusal refusalOf modulus
+none : map (λ bytes. lineAt bytes 1) ((two ++ ascii "\n") ∷ (two ++ two) ∷ []) ≡ [] ∷ [] ∷ []
+unfolding lineAt checkOf firstRefused isAmong linesOf readOf isLine numbersFrom fieldsLine digitsOf lastDigits runRefusal refusalOf modulus
 none = refl

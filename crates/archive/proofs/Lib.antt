@@ -1,7 +1,10 @@
 -- The crates above cite `Splitting`, `Folding`, `Checking`, `Runs`, `Demands` and `Summing` too.
 pub mod Splitting
 pub mod Folding
+mod Twins
+mod Chaining
 pub mod Checking
+mod LineByLine
 pub mod Finding
 pub mod Looking
 pub mod Runs

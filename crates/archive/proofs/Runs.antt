@@ -13,11 +13,11 @@ use Rattle.lines.specs.ReadLine.{ReadPromise, replyOf, readOf, runIn}
 use Rattle.lines.proofs.Reading.{accepted-line, own-run}
 use Rattle.archive.specs.declared.parts.NextRun.{NextRun}
 use Rattle.archive.specs.Archive.{linesOf}
-use Rattle.archive.specs.Check.{CheckReply, firstRefused, checkOf}
+use Rattle.archive.specs.Check.{CheckReply, checkOf}
 use Rattle.archive.specs.Parts.{firstPart, LineRun}
 use Rattle.archive.proofs.Splitting.{part-read, part-within, part-advances}
 use Rattle.archive.proofs.Folding.{Fold, fold-line, fold-next}
-use Rattle.archive.proofs.Checking.{refusing, refused-next, refused-here, check-lines}
+use Rattle.archive.proofs.Checking.{firstUnread, refusing, refused-next, refused-here, check-lines}
 
 -- The line that was read, as it stands in the bytes.
 pub run-read : {bytes : List ℕ} {at end : ℕ} (answer : RunAnswer) {reply : RunReply} → at < length bytes →
@@ -59,9 +59,9 @@ module _ {bytes : List ℕ} {at k : ℕ} (z : checkOf bytes .refusal ≡ 0) (w :
       line : List ℕ
       line = firstPart (drop at bytes)
 
-      first : firstRefused 1 (linesOf bytes) ≡ firstRefused k (line ∷ linesOf (drop (at + length line) bytes))
+      first : firstUnread 1 (linesOf bytes) ≡ firstUnread k (line ∷ linesOf (drop (at + length line) bytes))
       first =
-          fold-line w l refl ∙ ap (λ (bs : List ℕ). firstRefused k (bs ∷ linesOf (drop (at + length line) bytes))) (part-read bytes l refl)
+          fold-line w l refl ∙ ap (λ (bs : List ℕ). firstUnread k (bs ∷ linesOf (drop (at + length line) bytes))) (part-read bytes l refl)
 
   -- and the walk goes on behind it
   pub run-next : {next : NextRun} → LineRun bytes at next → Fold refusing tt bytes (next .end) (k + 1) tt

@@ -1,8 +1,8 @@
--- An archive of document 01: zero or more lines, one after the other (SCOPE 5.1).
+-- An archive of documents 01 and 02: zero or more lines, one after the other, no two of them equal (SCOPE 5.1).
 use mathlib.Core.Path.{_≡_}
 use mathlib.Core.Bool.{true, false}
 use mathlib.Core.List.{List, [], _∷_, _++_, map}
-use Prim.Native.Nat.{ℕ, zero, suc, _≤_}
+use Prim.Native.Nat.{ℕ, zero, suc, _≤_, _<_}
 use lib.Dec.{eqb}
 use lib.ListN.{length}
 use Rattle.lines.specs.declared.Run.{Run}
@@ -33,15 +33,22 @@ abbrev pub AllAccepted : List Run → Type 0
 AllAccepted [] = Unit
 AllAccepted (run ∷ runs) = (runRefusal run ≡ 0) × AllAccepted runs
 
--- The bytes are an accepted archive, with these runs.
-pub record IsArchive (bytes : List ℕ) (runs : List Run) : Type 0 where
-  pub short : length bytes ≤ 65536
-  pub accepted : AllAccepted runs
-  pub lines : bytes ≡ archiveOf runs
-
 -- An entry of a list, numbered from 1; what stands in for one that is not there.
 unfoldable pub numbered : {A : Type 0} → A → List A → ℕ → A
 numbered none xs zero = none
 numbered none [] (suc k) = none
 numbered none (x ∷ xs) (suc zero) = x
 numbered none (x ∷ xs) (suc (suc k)) = numbered none xs (suc k)
+
+-- The line with that number equals an earlier one, byte by byte.
+pub record Twin (lines : List (List ℕ)) (late : ℕ) : Type 0 where
+  pub early : ℕ
+  pub earlier : (0 < early) × (early < late) × (late ≤ length lines)
+  pub equal : numbered [] lines early ≡ numbered [] lines late
+
+-- The bytes are an accepted archive, with these runs.
+pub record IsArchive (bytes : List ℕ) (runs : List Run) : Type 0 where
+  pub short : length bytes ≤ 65536
+  pub accepted : AllAccepted runs
+  pub lines : bytes ≡ archiveOf runs
+  pub distinct : (late : ℕ) → Twin (map lineOf runs) late → ⊥

@@ -4,8 +4,8 @@ ghost use Rattle.archive.specs.Line.{LinePromise, PartPromise};
 ghost use Rattle.archive.specs.Lookup.{LookupPromise, replyOf};
 ghost use Rattle.archive.specs.Summary.{SummaryPromise, summaryReply};
 use generator::Refusal;
-use lines::RunAnswer;
 
+pub mod checks;
 pub mod parts;
 pub mod places;
 pub mod plain;
@@ -61,18 +61,10 @@ pub fn checked(archive: &[u8]) -> ArchiveCheck
     if 65536 < archive.len() {
         return ArchiveCheck::Refused(Refusal::ArchiveTooLong, 0);
     }
-    let mut at = 0;
-    let mut number = 1;
-    while at < archive.len() {
-        let end = parts::part_end(archive, at);
-        let answer = lines::read_line(&archive[at..end]);
-        if let RunAnswer::Refused(refusal) = answer {
-            return ArchiveCheck::Refused(refusal, number);
-        }
-        at = end;
-        number += 1;
+    if archive.len() <= 1024 {
+        return checks::short_checked(archive);
     }
-    ArchiveCheck::Accepted
+    checks::long_checked(archive)
 }
 
 // The place of the line with that number; the empty part if the archive is refused or has no such line.

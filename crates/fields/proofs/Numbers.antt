@@ -50,7 +50,7 @@ test-below : (m : ℕ) (vs : List ℕ) → AllBelow m vs → allBelow m vs ≡ t
 test-below m [] all = refl
 test-below m (v ∷ vs) all = rw (lt-ltb v m (all .0)) (test-below m vs (all .1))
 
-same-test : (bs cs : List ℕ) → sameBytes bs cs ≡ true → bs ≡ cs
+pub same-test : (bs cs : List ℕ) → sameBytes bs cs ≡ true → bs ≡ cs
 same-test [] [] e = refl
 same-test [] (c ∷ cs) e = absurd (let z : _≡_ {A = ℕ} 0 1 = cc in omega arith)
 same-test (b ∷ bs) [] e = absurd (let z : _≡_ {A = ℕ} 0 1 = cc in omega arith)
@@ -58,7 +58,7 @@ same-test (b ∷ bs) (c ∷ cs) e =
     let p = both (eqb b c) (sameBytes bs cs) e in
     rw (eqb-true b c (p .0), same-test bs cs (p .1))
 
-test-same : (bs : List ℕ) → sameBytes bs bs ≡ true
+pub test-same : (bs : List ℕ) → sameBytes bs bs ≡ true
 test-same [] = refl
 test-same (b ∷ bs) = rw (eq-eqb b b refl) (test-same bs)
 

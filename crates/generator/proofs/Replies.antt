@@ -29,6 +29,7 @@ number-suc refusal.NotInvertible = (6, refl)
 number-suc refusal.BufferTooShort = (7, refl)
 number-suc refusal.PlacesOutOfRange = (8, refl)
 number-suc refusal.TotalOverflow = (9, refl)
+number-suc refusal.DuplicateLine = (10, refl)
 
 pub number-nonzero : (x : Refusal) → numberOf x ≡ 0 → ⊥
 number-nonzero x e = let k = number-suc x in omega (arith, k .1)

@@ -21,6 +21,7 @@ numberOf refusal.NotInvertible = 7  -- one-way
 numberOf refusal.BufferTooShort = 8  -- short sheet
 numberOf refusal.PlacesOutOfRange = 9  -- places
 numberOf refusal.TotalOverflow = 10  -- total
+numberOf refusal.DuplicateLine = 11  -- twin
 
 -- The number that a check gives, 0 where it accepts.
 abbrev pub checkNumber : Check → ℕ

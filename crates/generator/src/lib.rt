@@ -35,6 +35,7 @@ pub enum Refusal {
     BufferTooShort,
     PlacesOutOfRange,
     TotalOverflow,
+    DuplicateLine,
 }
 
 pub enum Check {

@@ -17,5 +17,6 @@ pub fn number(refusal: Refusal) -> u64
         Refusal::BufferTooShort => 8,
         Refusal::PlacesOutOfRange => 9,
         Refusal::TotalOverflow => 10,
+        Refusal::DuplicateLine => 11,
     }
 }

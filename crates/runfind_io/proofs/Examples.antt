@@ -11,7 +11,7 @@ use Rattle.fields.specs.Line.{fieldsLine, numbersFrom, isLine}
 use Rattle.lines.specs.Run.{shows, runRefusal}
 use Rattle.lines.specs.ReadLine.{readOf}
 use Rattle.archive.specs.Archive.{linesOf}
-use Rattle.archive.specs.Check.{firstRefused, checkOf}
+use Rattle.archive.specs.Check.{isAmong, firstRefused, checkOf}
 use Rattle.archive.specs.Lookup.{positionOf, firstShowing, lookupOf}
 use Rattle.archive_io.specs.Source.{Source, holds, unreadable}
 use Rattle.runfind_io.specs.declared.decision.Question.the-variants.{Number, Malformed}
@@ -46,10 +46,11 @@ answers :
     ∷ printed (ascii "49\n") two
     ∷ printed (ascii "985\n") two
     ∷ printed (ascii "5\n") (holds (ascii "4,5,3,1,0,16\n4,5,3"))
+    ∷ printed (ascii "5\n") (holds (ascii "4,5,3,1,0,16\n4,5,3,1,0,16\n"))
     ∷ printed (ascii "5\n") unreadable
     ∷ printed (ascii "5") unreadable
     ∷ []
-    ≡ ascii "1,4\n" ∷ ascii "2,0\n" ∷ ascii "none\n" ∷ ascii "refused,2,2\n" ∷ ascii "unread\n" ∷ ascii "question\n" ∷ []
+    ≡ ascii "1,4\n" ∷ ascii "2,0\n" ∷ ascii "none\n" ∷ ascii "refused,2,2\n" ∷ ascii "refused,11,2\n" ∷ ascii "unread\n" ∷ ascii "question\n" ∷ []
 unfolding lookupOf firstShowing positionOf least shows element step
-    checkOf firstRefused linesOf readOf isLine numbersFrom fieldsLine digitsOf lastDigits runRefusal refusalOf modulus
+    checkOf firstRefused isAmong linesOf readOf isLine numbersFrom fieldsLine digitsOf lastDigits runRefusal refusalOf modulus
 answers = refl

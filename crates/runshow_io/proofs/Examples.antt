@@ -12,7 +12,7 @@ use Rattle.lines.specs.Line.{runAt}
 use Rattle.lines.specs.ReadLine.{readOf}
 use Rattle.lines.specs.Remake.{shownFrom}
 use Rattle.archive.specs.Archive.{linesOf, numbered}
-use Rattle.archive.specs.Check.{firstRefused, checkOf}
+use Rattle.archive.specs.Check.{isAmong, firstRefused, checkOf}
 use Rattle.archive.specs.Line.{lineAt}
 use Rattle.archive_io.specs.declared.notice.Notice.the-variants.{NotFound, Refused, BadQuestion, Unread}
 use Rattle.archive_io.specs.Source.{Source, holds, unreadable}
@@ -39,6 +39,7 @@ outcomes :
     ∷ outcome (ascii "3,0,1\n") two
     ∷ outcome (ascii "0,0,1\n") two
     ∷ outcome (ascii "1,0,1\n") (holds (ascii "4,5,3,1,0,16\n4,5,3"))
+    ∷ outcome (ascii "1,0,1\n") (holds (ascii "4,5,3,1,0,16\n4,5,3,1,0,16\n"))
     ∷ outcome (ascii "2,0,8\n") unreadable
     ∷ outcome (ascii "2,0\n") unreadable
     ∷ outcome (ascii "2,0,8,1\n") two
@@ -50,11 +51,12 @@ outcomes :
     ∷ Told NotFound
     ∷ Told NotFound
     ∷ Told (Refused 2 2)
+    ∷ Told (Refused 11 2)
     ∷ Told Unread
     ∷ Told BadQuestion
     ∷ Told BadQuestion
     ∷ []
-unfolding outcomeOf lineAt numbered checkOf firstRefused linesOf readOf isLine numbersFrom fieldsLine digitsOf lastDigits
+unfolding outcomeOf lineAt numbered checkOf firstRefused isAmong linesOf readOf isLine numbersFrom fieldsLine digitsOf lastDigits
     runRefusal refusalOf modulus
 outcomes = refl
 

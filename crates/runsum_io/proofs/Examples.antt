@@ -14,7 +14,7 @@ use Rattle.lines.specs.Run.{shows, runRefusal}
 use Rattle.lines.specs.ReadLine.{readOf}
 use Rattle.lines.specs.Variety.{varietyOf}
 use Rattle.archive.specs.Archive.{linesOf}
-use Rattle.archive.specs.Check.{firstRefused, checkOf}
+use Rattle.archive.specs.Check.{isAmong, firstRefused, checkOf}
 use Rattle.archive.specs.Summary.{totalOf, runsSummary, summaryOf}
 use Rattle.archive_io.specs.Source.{holds, unreadable}
 use Rattle.runsum_io.specs.Text.{runsText, summaryText}
@@ -30,6 +30,7 @@ outputs :
     ∷ holds (ascii "4,5,3,1,0,16\n4,5,3")
     ∷ holds (ascii "4,5,3,1,0,18446744073709551600\n4,5,3,1,0,16\n4,5,3,1,0,0\n")
     ∷ holds (ascii "4,5,3,1,0,18446744073709551600\n4,5,3,1,0,16\n")
+    ∷ holds (ascii "4,5,3,1,0,18446744073709551600\n4,5,3,1,0,18446744073709551600\n")
     ∷ unreadable
     ∷ [])
     ≡ ascii "1,16,16\n2,8,8\ntotal,24\n"
@@ -38,9 +39,10 @@ outputs :
     ∷ ascii "refused,2,2\n"
     ∷ ascii "refused,5,3\n"
     ∷ ascii "refused,10,0\n"
+    ∷ ascii "refused,11,2\n"
     ∷ ascii "unread\n"
     ∷ []
 unfolding outputOf summaryText runsText summaryOf runsSummary totalOf
     varietyOf distinctOf countOf isNew occurs indexOf least shows element step
-    checkOf firstRefused linesOf readOf isLine numbersFrom fieldsLine digitsOf lastDigits runRefusal refusalOf modulus
+    checkOf firstRefused isAmong linesOf readOf isLine numbersFrom fieldsLine digitsOf lastDigits runRefusal refusalOf modulus
 outputs = refl

@@ -1,0 +1,102 @@
+-- The check's loop: a walk over the lines whose state is the lines before. The chains hold these lines, so each line that is
+-- read is told as equal to one of them, or passes.
+use mathlib.Core.Path.{_≡_, refl, sym, ap, _∙_, subst}
+use mathlib.Core.Bool.{Bool, true, false}
+use mathlib.Core.List.{List, [], _∷_}
+use Prim.Native.Nat.{ℕ, suc, _+_, _-_, _≤_, _<_}
+use native.Mathlib.Omega.{arith}
+use lib.ListN.{length, take, drop, length-drop}
+use lib.Seq.{length-take-le}
+use Rattle.generator.specs.declared.Refusal.{Refusal}
+use Rattle.generator.specs.declared.Refusal.the-variants.{DuplicateLine}
+use Rattle.generator.specs.Refusals.{numberOf}
+use Rattle.generator.proofs.Replies.{number-suc}
+use Rattle.chains.specs.Chains.{Cleared}
+use Rattle.lines.specs.declared.Run.{Run}
+use Rattle.lines.specs.declared.RunAnswer.{RunAnswer}
+use Rattle.lines.specs.declared.RunAnswer.the-variants as answered
+use Rattle.lines.specs.declared.RunReply.{RunReply}
+use Rattle.lines.specs.Line.{lineOf}
+use Rattle.lines.specs.ReadLine.{ReadPromise, acceptedRun, refusedRun, replyOf, readOf}
+use Rattle.archive.specs.declared.ArchiveCheck.the-variants.{Accepted, Refused}
+use Rattle.archive.specs.Archive.{linesOf}
+use Rattle.archive.specs.Check.{CheckReply, refusedAt, checkReply, lineRefusal, firstRefused, CheckPromise}
+use Rattle.archive.specs.Parts.{firstPart}
+use Rattle.archive.specs.Chained.{Chained, SeenLine}
+use Rattle.archive.proofs.Splitting.{part-within}
+use Rattle.archive.proofs.Folding.{Fold, fold-start, fold-line, fold-next, fold-end}
+use Rattle.archive.proofs.Checking.{line-unread, line-read, first-next, first-here, short-check, check-promise}
+use Rattle.archive.proofs.Chaining.{chained-start}
+
+abbrev checking : ℕ → List (List ℕ) → List (List ℕ) → CheckReply
+checking k before lines = firstRefused k before lines
+
+-- the lines before, with which the walk goes on, are those in the chains
+pub record Passed (bytes : List ℕ) (at k : ℕ) (head next : List ℕ) : Type 0 where
+  pub before : List (List ℕ)
+  pub walk : Fold checking [] bytes at k before
+  pub chained : Chained bytes at head next before
+
+pub passed-start : {bytes head next : List ℕ} → Cleared bytes head next → Passed bytes 0 1 head next
+passed-start z = record { before = []; walk = fold-start; chained = chained-start z }
+
+-- The line that was read: its run, and its length.
+pub read-reply : {bytes : List ℕ} {answer : RunAnswer} {reply : RunReply} {run : Run} → answer ≡ answered.Accepted run →
+    reply ≡ replyOf answer → ReadPromise bytes (replyOf answer) → ReadPromise bytes (acceptedRun (reply .run))
+read-reply {bytes} {run = run} a e r =
+    let s = e ∙ ap replyOf a in
+    subst (ReadPromise bytes) (ap replyOf a ∙ ap acceptedRun (sym (ap (λ (q : RunReply). q .run) s))) r
+
+module _ (bytes : List ℕ) {at end : ℕ} {run : Run} (l : at < length bytes) (e : end ≡ at + length (firstPart (drop at bytes)))
+    (r : ReadPromise (take (end - at) (drop at bytes)) (acceptedRun run)) where
+  pub line-is : take (end - at) (drop at bytes) ≡ lineOf run
+  line-is = r .accepted refl .line
+
+  pub line-ends : at + length (lineOf run) ≡ end
+  line-ends =
+      let within = part-within bytes l e in
+      let size = length-take-le (end - at) (drop at bytes) (simp length-drop (omega (arith, within))) in
+      omega (arith, size, ap length line-is, within)
+
+module _ {bytes : List ℕ} {at k : ℕ} {head next : List ℕ} (p : Passed bytes at k head next) where
+  module _ {end : ℕ} (l : at < length bytes) (e : end ≡ at + length (firstPart (drop at bytes))) where
+    -- the line is refused with this number
+    declined : (x : Refusal) → lineRefusal (p .before) (take (end - at) (drop at bytes)) ≡ numberOf x → length bytes ≤ 65536 →
+        CheckPromise bytes (checkReply (Refused x k))
+    declined x n short =
+        check-promise
+        (sym
+        (short-check bytes short ∙ fold-line (p .walk) l e
+        ∙ first-here k (p .before) _ _ (λ z. omega (arith, number-suc x .1, n, z))
+        ∙ ap (λ (m : ℕ). refusedAt m k) n))
+
+    pub passed-refused : (x : Refusal) → ReadPromise (take (end - at) (drop at bytes)) (refusedRun (numberOf x)) → length bytes ≤ 65536 →
+        CheckPromise bytes (checkReply (Refused x k))
+    passed-refused x r =
+        let j = number-suc x in
+        declined x (line-unread (p .before) _ (sym (ap (λ (q : RunReply). q .refusal) (r .equals)) ∙ j .1) ∙ sym (j .1))
+
+    -- it is read, and told as one of those before or not
+    module _ {head' next' : List ℕ} {run : Run} {seen : Bool} (r : ReadPromise (take (end - at) (drop at bytes)) (acceptedRun run))
+        (told : SeenLine bytes at end head next head' next' seen) where
+      read : readOf (take (end - at) (drop at bytes)) .refusal ≡ 0
+      read = sym (ap (λ (q : RunReply). q .refusal) (r .equals))
+
+      pub passed-twin : seen ≡ true → length bytes ≤ 65536 → CheckPromise bytes (checkReply (Refused DuplicateLine k))
+      passed-twin t =
+          declined DuplicateLine (line-read (p .before) _ read (sym (told .law (p .before) (p .chained) .0) ∙ t))
+
+      pub passed-next : seen ≡ false → Passed bytes end (k + 1) head' next'
+      passed-next f =
+          let s = told .law (p .before) (p .chained) in
+          let line = take (end - at) (drop at bytes) in
+          record {
+            before = line ∷ p .before;
+            walk =
+                fold-next (p .walk) l e (line ∷ p .before)
+                (λ lines. first-next k (p .before) line lines (line-read (p .before) line read (sym (s .0) ∙ f)));
+            chained = s .1;
+          }
+
+  pub passed-end : length bytes ≤ at → length bytes ≤ 65536 → CheckPromise bytes (checkReply Accepted)
+  passed-end l short = check-promise (sym (short-check bytes short ∙ fold-end (p .walk) l ∙ unfold firstRefused in refl))

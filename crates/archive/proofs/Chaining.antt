@@ -1,15 +1,14 @@
 -- The chains of the lines before. Lines that are equal are those of one run, and fall into one slot; bytes that start with the
 -- line of a run have it as their first line. So a line is among those before exactly if it stands in the chain of its slot,
 -- and this holds again when it is added to that chain.
-use mathlib.Core.Path.{_≡_, refl, sym, ap, ap₂, _∙_, subst}
+use mathlib.Core.Path.{_≡_, refl, sym, ap, ap₂, _∙_}
 use mathlib.Core.Logic.{by-cases}
 use mathlib.Core.Bool.{Bool, true, false, _||_}
 use mathlib.Core.List.{List, [], _∷_, _++_}
-use Prim.Native.Nat.{ℕ, suc, _+_, _*_, _-_, _≤_, _<_}
+use Prim.Native.Nat.{ℕ, _+_, _*_, _-_, _≤_, _<_}
 use native.Mathlib.Decide.{ℕ-discrete}
 use native.Mathlib.Omega.{arith}
-use lib.ListN.{length, getD, take, drop, set, length-append, length-set, take-append-drop}
-use Rattle.fields.specs.Digits.{digitsOf}
+use lib.ListN.{length, getD, take, drop, length-append, length-set, take-append-drop}
 use Rattle.fields.specs.Line.{fieldsLine, sameBytes}
 use Rattle.fields.proofs.Digits.{digits-nonempty}
 use Rattle.fields.proofs.Numbers.{same-test}

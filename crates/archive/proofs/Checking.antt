@@ -11,7 +11,7 @@ use native.Mathlib.Omega.{arith}
 use lib.ListN.{length, take, drop}
 use borrow.Author.Tests.{lt-ltb, le-ltb}
 use Rattle.generator.specs.declared.Refusal.{Refusal}
-use Rattle.generator.specs.Refusals.{numberOf, orElse}
+use Rattle.generator.specs.Refusals.{numberOf}
 use Rattle.generator.proofs.Replies.{number-nonzero}
 use Rattle.lines.specs.declared.Run.{Run}
 use Rattle.lines.specs.Line.{lineOf}
@@ -175,16 +175,6 @@ check-accepts bytes = record { archive = archive; others = others }
               ∙ all-pass 1 [] (map lineOf runs) (runs-accepted 1 runs (is .accepted)) (distinct-fresh (is .distinct)),
           ap (map runIn) lines ∙ runs-back runs,
         )
-
-pub check-promise : {bytes : List ℕ} {reply : CheckReply} → reply ≡ checkOf bytes → CheckPromise bytes reply
-check-promise {bytes} e =
-    record {
-      equals = e;
-      meaning = subst (λ (r : CheckReply). Accepts bytes (r .refusal)) (sym e) (check-accepts bytes);
-    }
-
-pub check-long : {bytes : List ℕ} → 65536 < length bytes → CheckPromise bytes (refusedAt 1 0)
-check-long {bytes} l = check-promise (sym (long-check bytes l))
 
 -- the promise of an answer that is known
 pub check-as : {bytes : List ℕ} {a : ArchiveCheck} (b : ArchiveCheck) → a ≡ b → CheckPromise bytes (checkReply a) →

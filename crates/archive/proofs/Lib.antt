@@ -4,6 +4,7 @@ pub mod Folding
 mod Twins
 mod Chaining
 pub mod Checking
+mod Duplicates
 mod LineByLine
 pub mod Finding
 pub mod Looking

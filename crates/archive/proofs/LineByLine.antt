@@ -3,7 +3,7 @@
 use mathlib.Core.Path.{_≡_, refl, sym, ap, _∙_, subst}
 use mathlib.Core.Bool.{Bool, true, false}
 use mathlib.Core.List.{List, [], _∷_}
-use Prim.Native.Nat.{ℕ, suc, _+_, _-_, _≤_, _<_}
+use Prim.Native.Nat.{ℕ, _+_, _-_, _≤_, _<_}
 use native.Mathlib.Omega.{arith}
 use lib.ListN.{length, take, drop, length-drop}
 use lib.Seq.{length-take-le}
@@ -19,13 +19,13 @@ use Rattle.lines.specs.declared.RunReply.{RunReply}
 use Rattle.lines.specs.Line.{lineOf}
 use Rattle.lines.specs.ReadLine.{ReadPromise, acceptedRun, refusedRun, replyOf, readOf}
 use Rattle.archive.specs.declared.ArchiveCheck.the-variants.{Accepted, Refused}
-use Rattle.archive.specs.Archive.{linesOf}
 use Rattle.archive.specs.Check.{CheckReply, refusedAt, checkReply, lineRefusal, firstRefused, CheckPromise}
 use Rattle.archive.specs.Parts.{firstPart}
 use Rattle.archive.specs.Chained.{Chained, SeenLine}
 use Rattle.archive.proofs.Splitting.{part-within}
 use Rattle.archive.proofs.Folding.{Fold, fold-start, fold-line, fold-next, fold-end}
-use Rattle.archive.proofs.Checking.{line-unread, line-read, first-next, first-here, short-check, check-promise}
+use Rattle.archive.proofs.Checking.{line-unread, line-read, first-next, first-here, short-check}
+use Rattle.archive.proofs.Duplicates.{check-promise}
 use Rattle.archive.proofs.Chaining.{chained-start}
 
 abbrev checking : ℕ → List (List ℕ) → List (List ℕ) → CheckReply

@@ -11,7 +11,7 @@ use Rattle.lines.specs.declared.Run.{Run}
 use Rattle.lines.specs.ReadLine.{readOf}
 use Rattle.archive.specs.declared.ArchiveCheck.{ArchiveCheck}
 use Rattle.archive.specs.declared.ArchiveCheck.the-variants.{Accepted, Refused}
-use Rattle.archive.specs.Archive.{linesOf, runsIn, IsArchive}
+use Rattle.archive.specs.Archive.{linesOf, runsIn, Twin, IsArchive}
 
 -- The number and the line of an archive's refusal, both 0 where it is accepted.
 pub record CheckReply : Type 0 where
@@ -51,7 +51,8 @@ pub record Accepts (bytes : List ℕ) (refusal : ℕ) : Type 0 where
   pub archive : refusal ≡ 0 → IsArchive bytes (runsIn bytes)
   pub others : (runs : List Run) → IsArchive bytes runs → (refusal ≡ 0) × (runsIn bytes ≡ runs)
 
--- The promise of the check.
+-- The promise of the check. 11 comes with the number of a line that equals an earlier one.
 pub record CheckPromise (bytes : List ℕ) (reply : CheckReply) : Type 0 where
   pub equals : reply ≡ checkOf bytes
   pub meaning : Accepts bytes (reply .refusal)
+  pub twin : reply .refusal ≡ 11 → Twin (linesOf bytes) (reply .line)

@@ -3,3 +3,4 @@ mod Comparing
 mod Walking
 pub mod Linking
 pub mod Hashing
+mod Examples

@@ -1,7 +1,7 @@
 -- `archive::checks::line_seen` meets its contract: the line's slot is that of its run, and what its chain tells is told of all
 -- lines before.
 use borrow.Author.Needs.{needs}
-use mathlib.Core.Path.{_≡_, refl, sym, ap, _∙_, subst}
+use mathlib.Core.Path.{_≡_, sym, ap, _∙_, subst}
 use mathlib.Core.List.{List}
 use Prim.Native.Nat.{ℕ, _<_}
 use native.Mathlib.Omega.{arith}

@@ -7,7 +7,7 @@ use native.Mathlib.Omega.{arith}
 use denote.Ref.{now}
 use lib.ListN.{length, take, drop}
 use Rattle.lines.specs.ReadLine.{ReadPromise, acceptedRun}
-use Rattle.lines.specs.declared.RunAnswer.the-variants.{Accepted, Refused}
+use Rattle.lines.specs.declared.RunAnswer.the-variants.{Refused}
 use Rattle.lines.proofs.Reading.{read-as}
 use Rattle.archive.proofs.Splitting.{part-within, part-advances}
 use Rattle.archive.proofs.LineByLine.{Passed, passed-start, read-reply, line-is, line-ends, passed-refused, passed-twin, passed-next, passed-end}

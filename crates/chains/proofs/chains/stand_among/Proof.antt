@@ -1,7 +1,7 @@
 -- `chains::chains::stand_among` meets its contract: the marks from the one looked at on decide.
 use borrow.Author.Needs.{needs}
-use mathlib.Core.Path.{_≡_, refl, sym, _∙_}
-use Prim.Native.Nat.{_-_, _/_, _≤_}
+use mathlib.Core.Path.{refl}
+use Prim.Native.Nat.{_-_, _/_}
 use native.Mathlib.Omega.{arith}
 use Rattle.chains.proofs.Walking.{Walk, walk-here, walk-falls, walk-next, walk-end}
 use Rattle.chains.proofs.chains.stand_among.Statement.{statement}

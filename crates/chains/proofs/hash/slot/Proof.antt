@@ -1,10 +1,10 @@
 -- `chains::hash::slot` meets its contract: the hash so far, over the numbers left, is the hash of all.
 use borrow.Author.Needs.{needs}
-use mathlib.Core.Path.{_≡_, sym, ap, _∙_}
-use Prim.Native.Nat.{ℕ, _+_, _*_, _%_, _-_, _^_, _<_}
+use mathlib.Core.Path.{_≡_, _∙_}
+use Prim.Native.Nat.{_-_, _^_, _<_}
 use native.Mathlib.Omega.{arith}
 use lib.ListN.{length, drop}
-use Rattle.chains.specs.Hash.{hashFrom, slotOf}
+use Rattle.chains.specs.Hash.{hashFrom}
 use Rattle.chains.proofs.Hashing.{hash-next, hash-end, slot-fits, slot-is}
 use Rattle.chains.proofs.hash.slot.Statement.{statement}
 use Rattle.chains.proofs.hash.slot.Tie as tie

@@ -6,15 +6,16 @@
  * multiplier is 16807, its increment 0 and its seed 1 to 2147483646.
  * A run is a generator with a first index and a count; position p, below the count, shows
  * element first + p. A line is the six numbers of a run in the order of np_run, in decimal,
- * separated by commas and ended by byte 10. An archive is zero or more lines, numbered from 1.
+ * separated by commas and ended by byte 10. An archive is zero or more lines, no two of them equal,
+ * numbered from 1.
  *
  * Any numbers and any bytes may be passed: nothing has to be checked beforehand. A pointer must
  * be good for the length that comes with it; a null pointer is good with length 0. No call
  * allocates, keeps a pointer or has a state, so all of them may run at once in several threads.
  *
- * The first field of a reply is the refusal: 0, or the lowest NP_REFUSED_.. that applies. Beside
- * a refusal every other field is 0 (but for the line that it concerns, in a lookup or a summary)
- * and nothing is written.
+ * The first field of a reply is the refusal: 0, or the lowest NP_REFUSED_.. that applies, of an
+ * archive the first in the order below. Beside a refusal every other field is 0 (but for the line
+ * that it concerns, in a lookup or a summary) and nothing is written.
  */
 #ifndef NOONPASTURE_H
 #define NOONPASTURE_H
@@ -26,12 +27,12 @@
 extern "C" {
 #endif
 
-#define NP_VERSION "0.10.0"
+#define NP_VERSION "0.11.0"
 
 #define NP_LINE_MAX 107       /* no line of a run is longer, its byte 10 included */
 #define NP_ARCHIVE_MAX 65536  /* no accepted archive is longer */
 
-/* Why a call is refused. In an archive 1 comes first, then line by line 2, 3, 4, 5, then 10. */
+/* Why a call is refused. In an archive 1 comes first, then line by line 2, 3, 4, 5, 11, then 10. */
 enum {
     NP_REFUSED_ARCHIVE_TOO_LONG = 1,      /* more than NP_ARCHIVE_MAX bytes */
     NP_REFUSED_MALFORMED_LINE = 2,        /* bytes that are not a valid line: a field that is no
@@ -47,7 +48,9 @@ enum {
     NP_REFUSED_NOT_INVERTIBLE = 7,        /* predecessor or gap with an even multiplier */
     NP_REFUSED_BUFFER_TOO_SHORT = 8,      /* the buffer is shorter than the line */
     NP_REFUSED_PLACES_OUT_OF_RANGE = 9,   /* 0 places, or more than the width has: at width 0 always */
-    NP_REFUSED_TOTAL_OVERFLOW = 10        /* summary of an archive whose counts sum to more than 2^64 - 1 */
+    NP_REFUSED_TOTAL_OVERFLOW = 10,       /* summary of an archive whose counts sum to more than 2^64 - 1 */
+    NP_REFUSED_DUPLICATE_LINE = 11        /* a line of an archive equals an earlier one, byte by byte; the line
+                                             given is the later of the two */
 };
 
 typedef struct { uint64_t width, multiplier, increment, seed; } np_generator;
@@ -63,7 +66,7 @@ typedef struct { uint64_t refusal, found; int64_t steps; } np_gap_reply;      /*
 typedef struct { uint64_t refusal; np_run run; } np_run_reply;
 typedef struct { uint64_t refusal, line, found, position; } np_lookup_reply;  /* found 0, refusal 0: none */
 typedef struct { uint64_t start, length; } np_part;                           /* length 0: the empty part */
-/* line: the one that a refusal 2 to 5 concerns, else 0 */
+/* line: the one that a refusal 2 to 5 or 11 concerns, else 0 */
 typedef struct { uint64_t refusal, line, line_count, total; } np_summary_reply;
 
 /* The element at an index, any from 0 to 2^64 - 1. Refusals 3, 4. */
@@ -121,13 +124,13 @@ np_value        np_remake(np_run run, uint64_t position, uint64_t *values, size_
 np_part         np_line(const uint8_t *archive, size_t length, uint64_t line);
 
 /* The earliest line that shows the value and the least position in it (found 1), or none (found 0).
- * The whole archive is checked first. Refusals 1 with line 0; 2, 3, 4, 5 with the number of the
+ * The whole archive is checked first. Refusals 1 with line 0; 2, 3, 4, 5, 11 with the number of the
  * refused line. */
 np_lookup_reply np_lookup(const uint8_t *archive, size_t length, uint64_t value);
 
 /* How many lines the archive has (line_count) and the sum of their counts (total); both are 0 for an
  * archive of 0 bytes. The whole archive is checked first, so 10 is given only if every line has passed.
- * Refusals 1 and 10 with line 0; 2, 3, 4, 5 with the number of the refused line. */
+ * Refusals 1 and 10 with line 0; 2, 3, 4, 5, 11 with the number of the refused line. */
 np_summary_reply np_summary(const uint8_t *archive, size_t length);
 
 /* A refusal's reason in words; of 0 and of numbers that are no refusal it says so. */
@@ -147,6 +150,7 @@ static inline const char *np_refusal_text(uint64_t refusal)
     case NP_REFUSED_BUFFER_TOO_SHORT: return "the buffer is shorter than the line";
     case NP_REFUSED_PLACES_OUT_OF_RANGE: return "the number of places is 0 or above the width";
     case NP_REFUSED_TOTAL_OVERFLOW: return "the sum of the counts is above 2^64 - 1";
+    case NP_REFUSED_DUPLICATE_LINE: return "the line equals an earlier one";
     default: return "no refusal has this number";
     }
 }

@@ -102,6 +102,16 @@ longest() {
     echo 10,371,995,73,100,8
 }
 
+# with_twin EARLIER LATER: the longest archive with a copy of the earlier line in place of the later.
+with_twin() {
+    longest | awk -v earlier="$1" -v later="$2" 'NR == earlier { line = $0 } NR == later { $0 = line } { print }'
+}
+
+# with_near_twin: the same for lines 9 and 5459, but that these differ in their last digit.
+with_near_twin() {
+    with_twin 9 5459 | sed '5459s/.$/1/'
+}
+
 # Runs a program whose standard input is a pipe that is still open but has nothing to read.
 not_blocking='
 import os, sys
@@ -116,6 +126,13 @@ os.execv(sys.argv[1], sys.argv[1:])'
 refused() {
     archive "4,5,3,1,0,16\n$3"
     answers "$1" "$question" "refused,$2,2"
+}
+
+# refuses NAME NUMBER,LINE: the archive on standard input is refused so.
+refuses() {
+    fresh
+    cat >"$folder/archive.csv"
+    answers "$1" "$question" "refused,$2"
 }
 
 # fed NAME WANTED PART..: the archive is a named pipe that gets these pieces.
@@ -139,6 +156,9 @@ faults() {
     spreadsheets
     out_of_range
     order
+    twins
+    twins_and_bad_lines
+    far_twins
 }
 
 # A file that can't be read.
@@ -276,6 +296,56 @@ order() {
     answers 'bad line 7 of 7' "$question" refused,5,7
 }
 
+# Of a line that equals an earlier one the later is told, and of several the first.
+twins() {
+    local one=4,5,3,1,0,16 other=10,371,995,73,100,8 prime=0,16807,0,1,0,5
+    local wide=64,18446744073709551615,18446744073709551615,18446744073709551615,10000000000000000000,8446744073709551615
+    lines $one $one | refuses 'line 2 equals line 1' 11,2
+    lines $one $one $one | refuses 'lines 2 and 3 equal line 1' 11,2
+    lines $one $one $other | refuses 'line 2 equals line 1, another behind' 11,2
+    lines $one $other $one | refuses 'line 3 equals line 1' 11,3
+    lines $one $other $other | refuses 'line 3 equals line 2' 11,3
+    lines $one $other $other $one | refuses 'line 3 equals line 2, line 4 equals line 1' 11,3
+    lines $one $other $one $other | refuses 'line 3 equals line 1, line 4 equals line 2' 11,3
+    lines $one $prime $other $prime | refuses 'line 4 equals line 2, of width 0' 11,4
+    lines $one $wide $wide | refuses 'line 3 equals line 2, of 107 bytes' 11,3
+    lines ${one}0 $one ${one}1 $one | refuses 'line 4 equals line 2, the others begin alike' 11,4
+}
+
+# It is the last that is looked at in a line, and the first line that is refused counts.
+twins_and_bad_lines() {
+    local one=4,5,3,1,0,16 number bad
+    while read -r number bad; do
+        lines $one "$bad" $one | refuses "$bad before a line that equals line 1" "$number,2"
+        lines $one $one "$bad" | refuses "$bad behind a line that equals line 1" 11,2
+        lines $one "$bad" "$bad" | refuses "$bad twice" "$number,2"
+    done <<'END'
+2 4,5,3,1,0
+3 65,5,3,1,0,16
+4 4,5,3,16,0,16
+4 0,16807,0,0,0,16
+5 4,5,3,1,0,0
+END
+    archive "${example}4,5,3,1,0,16"
+    answers 'line 3 equals line 1 but for byte 10, which is missing' "$question" refused,2,3
+    archive "${example}4,5,3,1,0,16\n4,5"
+    answers 'line 3 equals line 1, byte 10 missing behind it' "$question" refused,11,3
+}
+
+# In archives of about 1,000 bytes and of 65,536.
+far_twins() {
+    { longest | head -n 80; longest | head -n 1; } | refuses '81 lines, the last equals the first' 11,81
+    { longest | head -n 90; longest | head -n 1; } | refuses '91 lines, the last equals the first' 11,91
+    with_twin 9 10 | refuses '65536 bytes, line 10 equals line 9' 11,10
+    with_twin 9 5459 | refuses '65536 bytes, line 5459 equals line 9' 11,5459
+    with_twin 2730 2731 | refuses '65536 bytes, line 2731 equals line 2730' 11,2731
+    with_twin 5458 5459 | refuses '65536 bytes, line 5459 equals line 5458' 11,5459
+    with_twin 1 5460 | refuses '5460 lines, the last equals the first' 11,5460
+    with_twin 9 5459 | sed 5000s/.$/x/ | refuses '65536 bytes, line 5459 equals line 9, line 5000 is bad' 2,5000
+    with_twin 9 5000 | sed 5459s/.$/x/ | refuses '65536 bytes, line 5000 equals line 9, line 5459 is bad' 11,5000
+    { with_twin 9 10; echo; } | refuses '65537 bytes, line 10 equals line 9' 1,0
+}
+
 # Lines at the bounds. What is tried of an archive of such a line the scripts say, in accepted NAME LINE POSITION.
 in_range() {
     accepted 'width 64' 64,6364136223846793005,1442695040888963407,1,1099511627776,1000 777
@@ -295,6 +365,7 @@ in_range() {
 archives_in_pieces() {
     fed 'archive in pieces' "$1" 4,5, 3,1,0,16 '\n' 10,371 ',995,73,100,8\n'
     fed 'archive in pieces, byte 10 missing' refused,2,2 4,5, 3,1,0,16 '\n' 10,371,995,73,100,8
+    fed 'archive in pieces, line 2 equals line 1' refused,11,2 4,5, 3,1,0,16 '\n' 4,5,3,1,0 ',16\n'
     fed 'archive in pieces, 0 bytes' "$2" '' ''
     local bytes
     bytes=$(longest)

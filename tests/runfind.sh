@@ -65,6 +65,8 @@ full() {
     agrees '65536 bytes, first line' 0
     agrees '65536 bytes, last line' 49
     agrees '65536 bytes' 1023
+    with_near_twin >"$folder/archive.csv"
+    answers '65536 bytes, two lines differ in the last digit' '49\n' 5460,0
 }
 
 # accepted NAME LINE POSITION: an archive of this line; the number at the position is looked for.
@@ -76,8 +78,15 @@ accepted() {
 searches() {
     archive ''
     answers 'an archive of 0 bytes' '0\n' none
+    archive '4,5,3,1,0,16\n4,5,3,1,0,17\n'
+    answers 'lines that differ in the last digit, both show it' '5\n' 1,4
     archive '4,5,3,1,0,16\n4,5,3,1,0,16\n'
-    answers 'equal lines' '5\n' 1,4
+    answers 'equal lines, both show it' '5\n' refused,11,2
+    answers 'equal lines, neither shows it' '16\n' refused,11,2
+    archive '4,5,3,1,0,16\n10,371,995,73,100,8\n4,5,3,1,0,16\n'
+    answers 'equal lines, only the one between them shows it' '49\n' refused,11,3
+    archive '64,5,0,1,0,9\n64,5,1,7046029254386353132,0,9\n'
+    answers 'different lines to which the check gives the same hash' '7046029254386353132\n' 2,0
     archive '4,5,3,1,0,16\n4,5,3,1,4,2\n'
     answers 'an earlier line with a higher position' '5\n' 1,4
     archive '4,5,3,1,0,4\n4,5,3,1,0,5\n'

@@ -77,6 +77,15 @@ refusals() {
     answers 'a malformed line behind the one asked for' '1,0,1\n' refused,2,2
     answers 'a malformed line, none asked for' '1,0,0\n' refused,2,2
     answers 'a malformed line, no such line' '9,0,1\n' refused,2,2
+    archive '4,5,3,1,0,16\n10,371,995,73,100,8\n4,5,3,1,0,16\n'
+    answers 'equal lines, the earlier asked for' '1,0,1\n' refused,11,3
+    answers 'equal lines, the later asked for' '3,0,1\n' refused,11,3
+    answers 'equal lines, the one between them asked for' '2,0,8\n' refused,11,3
+    answers 'equal lines, none asked for' '1,0,0\n' refused,11,3
+    answers 'equal lines, no such line' '9,0,1\n' refused,11,3
+    archive '4,5,3,1,0,16\n4,5,3,1,0,17\n'
+    answers 'lines that differ in the last digit, the earlier' '1,15,9\n' 6
+    answers 'lines that differ in the last digit, the later' '2,15,9\n' "$(lines 6 1)"
     archive '65,5,3,1,0,16\n'
     answers 'width 65' '1,0,1\n' refused,3,1
     archive '4,5,3,16,0,16\n'
@@ -90,6 +99,8 @@ refusals() {
     answers "$(wc -c <"$folder/archive.csv") bytes, the last line" '5460,0,2\n' "$(lines 49 742)"
     echo >>"$folder/archive.csv"
     answers "$(wc -c <"$folder/archive.csv") bytes" '5460,0,2\n' refused,1,0
+    with_near_twin >"$folder/archive.csv"
+    answers '65536 bytes, two lines differ in the last digit' '5460,0,2\n' "$(lines 49 742)"
 }
 
 wide() {

@@ -37,8 +37,18 @@ examples() {
     sums 'a far run' '4,5,3,1,1000000007,16\n' 1,16,16 total,16
 }
 
+# Equal lines are refused; different ones that show the same numbers are all counted.
 equal_lines() {
-    sums 'equal lines' '4,5,3,1,0,16\n4,5,3,1,0,16\n' 1,16,16 2,16,16 total,32
+    sums 'equal lines' '4,5,3,1,0,16\n4,5,3,1,0,16\n' refused,11,2
+    sums 'lines that show the same' '4,5,3,1,0,16\n4,5,3,1,16,16\n' 1,16,16 2,16,16 total,32
+    sums 'lines that differ in the last digit' '4,5,3,1,0,16\n4,5,3,1,0,17\n' 1,16,16 2,17,16 total,33
+    with_near_twin | agrees '65536 bytes, two lines differ in the last digit'
+    sums 'equal lines, 2^64 - 1 each' "4,5,3,1,0,$top\n4,5,3,1,0,$top\n" refused,11,2
+    sums 'equal lines, 2^63 each' "64,1,1,0,0,$half\n64,1,1,0,0,$half\n" refused,11,2
+    sums 'equal lines before a total of 2^64' "4,5,3,1,0,1\n4,5,3,1,0,1\n4,2,0,1,0,$top\n" refused,11,2
+    sums 'equal lines about a total of 2^64' "4,5,3,1,0,1\n4,2,0,1,0,$top\n4,5,3,1,0,1\n" refused,11,3
+    sums 'equal lines behind a total of 2^64' "4,5,3,1,0,1\n4,2,0,1,0,$top\n4,2,0,1,0,3\n4,2,0,1,0,3\n" refused,11,4
+    { shares 9007199254740992; echo 9,5,3,1,1,9007199254740992; } | agrees '2048 lines, 2^64, and one of them again'
 }
 
 # Nothing is read from standard input, and nothing waited for.

@@ -159,17 +159,87 @@ static void print_summary(np_summary_reply r)
     print(4, r.refusal, r.line, r.line_count, r.total);
 }
 
-/* No vector is long enough for the refusal of an archive's length: so many bytes 0 are tried. */
-static void try_zeros(size_t length, uint64_t refusal, uint64_t line)
+/* The archive is refused so by every call on it. */
+static void try_refused(const uint8_t *archive, size_t length, uint64_t refusal, uint64_t line)
 {
-    static uint8_t archive[NP_ARCHIVE_MAX + 1];
     np_lookup_reply found = np_lookup(archive, length, 0);
     np_summary_reply sum = np_summary(archive, length);
+    np_part part = np_line(archive, length, 1);
 
     if (found.refusal != refusal || found.line != line || found.found != 0 || found.position != 0)
         fail("a lookup in a long archive replies otherwise");
     if (sum.refusal != refusal || sum.line != line || sum.line_count != 0 || sum.total != 0)
         fail("a summary of a long archive replies otherwise");
+    if (part.start != 0 || part.length != 0)
+        fail("a line of a refused archive is not the empty part");
+}
+
+/* No vector is long enough for the refusal of an archive's length: so many bytes 0 are tried. */
+static void try_zeros(size_t length, uint64_t refusal, uint64_t line)
+{
+    static uint8_t archive[NP_ARCHIVE_MAX + 1];
+
+    try_refused(archive, length, refusal, line);
+}
+
+/* Different lines that have NP_ARCHIVE_MAX bytes together. Line k, from 1 on, is 64,5,3,s,0,9 with
+ * s = 10000 + k; the second has count 90, and one byte more than the others. */
+enum { LINE = 17, LINES = 3855 };
+
+static uint8_t full[NP_ARCHIVE_MAX + 1];
+
+static uint8_t *line_at(int k)
+{
+    return full + LINE * (k - 1) + (k > 2);
+}
+
+/* Writes line k, of seed 10000 + s. */
+static void put_line(int k, int s)
+{
+    char line[LINE + 2];
+
+    snprintf(line, sizeof line, k == 2 ? "64,5,3,%d,0,90\n" : "64,5,3,%d,0,9\n", 10000 + s);
+    memcpy(line_at(k), line, strlen(line));
+}
+
+/* The later line is written as the earlier one: it is refused, and with the last digit changed it is
+ * not. */
+static void try_twins(int earlier, int later)
+{
+    np_summary_reply sum;
+    np_part part;
+
+    put_line(later, earlier);
+    try_refused(full, NP_ARCHIVE_MAX, NP_REFUSED_DUPLICATE_LINE, (uint64_t)later);
+    try_refused(full, NP_ARCHIVE_MAX + 1, NP_REFUSED_ARCHIVE_TOO_LONG, 0);
+    line_at(later)[LINE - 2] = '8';
+    sum = np_summary(full, NP_ARCHIVE_MAX);
+    part = np_line(full, NP_ARCHIVE_MAX, (uint64_t)later);
+    if (sum.refusal != 0 || sum.line_count != LINES || sum.total != 9 * LINES + 90 - 9 - 1)
+        fail("a summary of different lines replies otherwise");
+    if (part.start != (uint64_t)(line_at(later) - full) || part.length != LINE)
+        fail("a line of a full archive is another part");
+    put_line(later, later);
+}
+
+/* Twins next to each other and far apart, and a bad line behind one and before it. */
+static void try_full_archives(void)
+{
+    int k;
+
+    for (k = 1; k <= LINES; k++)
+        put_line(k, k);
+    try_twins(1, 3);
+    try_twins(1, LINES);
+    try_twins(3, 4);
+    try_twins(3, LINES);
+    try_twins(LINES / 2, LINES / 2 + 1);
+    try_twins(LINES - 1, LINES);
+    put_line(2000, 1);
+    line_at(2001)[0] = 'x';
+    try_refused(full, NP_ARCHIVE_MAX, NP_REFUSED_DUPLICATE_LINE, 2000);
+    line_at(1999)[0] = 'x';
+    try_refused(full, NP_ARCHIVE_MAX, NP_REFUSED_MALFORMED_LINE, 1999);
 }
 
 int main(void)
@@ -178,6 +248,7 @@ int main(void)
 
     try_zeros(NP_ARCHIVE_MAX, NP_REFUSED_MALFORMED_LINE, 1);
     try_zeros(NP_ARCHIVE_MAX + 1, NP_REFUSED_ARCHIVE_TOO_LONG, 0);
+    try_full_archives();
     while ((letter = next_call()) != 0)
         switch (letter) {
         case 'E': print_value(np_element(generator(), numbers[4])); break;

@@ -26,7 +26,7 @@ The five numbers of M are a buffer that held 1, 2, 3, 4, 5, and of which the fir
 
 import random
 import sys
-from itertools import product
+from itertools import combinations, islice, permutations, product
 from pathlib import Path
 
 import reference as ref
@@ -685,15 +685,24 @@ def refusals_at_width_0():
         yield from refused_at_width_0(prime(seed))
 
 
-def worked_mixed_archives():
-    """A number that a line of width 0 and one of another width show, in both orders; one that width 0
-    shows only behind the end of its run, before it, or never."""
-    linear, prime_line = b"31,5,3,1,0,9\n", b"0,16807,0,1,0,5\n"
+LINEAR_LINE, PRIME_LINE = b"31,5,3,1,0,9\n", b"0,16807,0,1,0,5\n"
+
+
+def lookups_about_width_0(archives):
+    """Of numbers that PRIME_LINE shows, that stand behind the end of its run or before it, and others."""
     shown = [ref.element(*prime(1), i)[1] for i in (*range(7), PERIOD - 1)]
-    in_each_order = linear + prime_line, prime_line + linear, prime_line * 2, linear + prime_line * 2
-    for archive in in_each_order:
+    for archive in archives:
         for number in (*shown, 8, 43, 0, PRIME, PRIME + 1, TOP):
             yield "F", (number, archive)
+
+
+def worked_mixed_archives():
+    """A number that a line of width 0 and one of another width show, in both orders; one that width 0
+    shows only behind the end of its run, before it, or never; all of them beside equal lines too."""
+    linear, prime_line = LINEAR_LINE, PRIME_LINE
+    in_each_order = linear + prime_line, prime_line + linear
+    yield from lookups_about_width_0((*in_each_order, prime_line * 2, linear + prime_line * 2))
+    shown = [ref.element(*prime(1), i)[1] for i in range(5)]
     same_number = b"40,1,1,%d,0,9\n" % shown[4]
     for archive in (same_number + prime_line, prime_line + same_number):
         yield "F", (shown[4], archive)
@@ -750,14 +759,17 @@ def shares(total, parts):
     return counts
 
 
+# Twenty different ones.
+SHORT_LINES = [ref.line_of((4 + k % 6, 5, k % 10, 1, 0, 1 + k % 9)) for k in range(20)]
+
+
 def plain_archives():
     """None, document 01's, equal lines; one to twenty short ones; each of the seven kinds by itself."""
     yield b""
     yield b"4,5,3,1,0,16\n10,371,995,73,100,8\n"
     yield b"4,5,3,1,0,16\n4,5,3,1,0,16\n"
-    short = [ref.line_of((4 + k % 6, 5, k % 10, 1, 0, 1 + k % 9)) for k in range(20)]
     for length in (1, 2, 3, 9, 10, 11, 20):
-        yield b"".join(short[:length])
+        yield b"".join(SHORT_LINES[:length])
     for g in BRIEF:
         for count in (1, 20, TOP):
             yield ref.line_of((*g, 0, count))
@@ -803,10 +815,141 @@ def summary_calls():
             yield "S", (archive,)
 
 
+# For lines that equal an earlier one. Line 1 of these archives shows 1, unless it is refused.
+
+
+def in_place_of_equal_lines():
+    """That of two lines that show a number the earlier is named, and that both are counted: by different lines,
+    since equal ones are refused."""
+    shorter = b"0,16807,0,1,0,4\n"
+    yield from lookups_about_width_0((PRIME_LINE + shorter, LINEAR_LINE + PRIME_LINE + shorter))
+    yield "S", (b"4,5,3,1,0,16\n4,5,3,1,1,16\n",)
+
+
+def twins_at_each_place():
+    """Seven lines, and with one of them repeated at each later place; the first of many repeated as the last."""
+    lines = lines_with(16, 8, 5, 9, 3, 2, 7)
+    yield lines
+    for earlier, later in combinations(range(8), 2):
+        yield [*lines[:later], lines[earlier], *lines[later:]]
+    for length in (2, 16, 17, 18):
+        yield [*SHORT_LINES[:length], SHORT_LINES[0]]
+
+
+def twins_in_each_order():
+    """Two lines, each up to four times."""
+    for length in (2, 3, 4):
+        yield from product((b"4,5,3,1,0,16\n", b"10,371,995,1,0,8\n"), repeat=length)
+
+
+def near_twins():
+    """Lines that differ in one digit, the last one too, or of which one begins as the other does."""
+    line = b"10,371,345,1,0,18\n"
+    for at, byte in enumerate(line):
+        if byte in b"0123456789":
+            changed = line[:at] + b"%d" % ((byte - ord("0") + 1) % 10) + line[at + 1 :]
+            yield line, changed
+            yield line, changed, line
+            yield line, changed, changed
+    yield from permutations([b"4,5,3,1,0,1%s\n" % more for more in (b"", b"6", b"60", b"61", b"600")], 2)
+
+
+def bad_lines_about_twins():
+    """A bad line at each place about a twin; a bad line twice; byte 10 missing behind a twin and in it."""
+    a, b, c = lines_with(16, 8, 5)
+    for bad, place in product(BAD_LINES, range(5)):
+        lines = [a, b, a, c]
+        lines.insert(place, bad)
+        yield lines
+    for bad in BAD_LINES:
+        yield a, bad, bad
+    yield from ((a, a[:-1]), (a, b, a[:-1]), (a, a, a[:-1]), (a, a, b[:-1]), (a, b, a, b"\n"))
+
+
+def twins_about_a_sum():
+    """Beside a sum that is too large without the twin, that is so with it, and that would be small modulo 2^64."""
+    for counts in ((TOP, TOP, 1), (1, TOP, TOP), (2**63, 1, 2), (TOP, 1, 2), (2**62, 2**63, 2**62)):
+        lines = lines_with(*counts)
+        yield lines
+        for earlier, later in combinations(range(4), 2):
+            yield [*lines[:later], lines[earlier], *lines[later:]]
+
+
+# How the library keeps lines to find their twins: by a hash of the six numbers, in 64 slots or, for a longer archive
+# than can stand here, in 4,096. Only lines of one slot are compared.
+HASH_FACTOR = 0x9E3779B97F4A7C15
+
+
+def hash_of(run):
+    value = 0
+    for number in run:
+        value = (value + number) * HASH_FACTOR % 2**64
+    return value
+
+
+def slot_of(run, slots):
+    return (hash_of(run) >> 32) * slots >> 32
+
+
+def runs_in_one_slot(slots):
+    runs = ((9, 5, 3, 1, 0, count) for count in range(1, TOP))
+    return (run for run in runs if slot_of(run, slots) == slot_of((9, 5, 3, 1, 0, 1), slots))
+
+
+def runs_of_one_hash():
+    """What the increment adds to the hash, the seed takes from it."""
+    for increment in range(TOP):
+        run = 64, 5, increment, (1 - increment * HASH_FACTOR) % 2**64, 0, 9
+        assert hash_of(run) == hash_of((64, 5, 0, 1, 0, 9))
+        yield run
+
+
+def beginnings_in_one_slot():
+    """Pairs of runs of which one has the other's line, up to its byte 10, and a digit more."""
+    for count, digit in product(range(1, 200), range(10)):
+        run, longer = (9, 5, 3, 1, 0, count), (9, 5, 3, 1, 0, 10 * count + digit)
+        if slot_of(run, 64) == slot_of(longer, 64):
+            yield run, longer
+
+
+def colliding_lines():
+    """Lines of one slot and of one hash, as many as fit a vector, and with each of them repeated as the last;
+    two of one slot of which one begins as the other does, in both orders."""
+    for runs, fitting in ((runs_in_one_slot(64), 15), (runs_in_one_slot(4096), 14), (runs_of_one_hash(), 5)):
+        lines = [ref.line_of(run) for run in islice(runs, fitting)]
+        yield lines
+        yield from ((*lines, twin) for twin in lines)
+    for runs in islice(beginnings_in_one_slot(), 8):
+        yield from permutations(map(ref.line_of, runs))
+
+
+def random_twins():
+    """Different runs of every kind, one of which comes again further on. Now and then with a damaged line."""
+    pool = [*short_runs(), *wide_runs(), *prime_runs()]
+    for _ in range(60):
+        runs = list(dict.fromkeys(pick(pool) for _ in range(2 + below(9))))
+        twin = below(len(runs))
+        runs.insert(twin + 1 + below(len(runs) - twin), runs[twin])
+        archive = an_archive(runs)
+        number = a_shown_number(pick(runs))
+        yield from (("F", (number, archive)), ("L", (1 + below(len(runs)), archive)), ("S", (archive,)))
+
+
+def twin_calls():
+    yield from in_place_of_equal_lines()
+    parts = twins_at_each_place, twins_in_each_order, near_twins, bad_lines_about_twins, twins_about_a_sum
+    for part in (*parts, colliding_lines):
+        for lines in part():
+            archive = b"".join(lines)
+            yield from (("F", (1, archive)), ("L", (1, archive)), ("L", (len(lines), archive)), ("S", (archive,)))
+    yield from random_twins()
+
+
 def all_calls():
     refused = refused_generators, refused_runs, one_way, refused_archives
     accepted = long_sequences, wide_calls, printed_tables, valid_calls, reading_calls, archive_calls, remaking_calls
-    parts = bounds, *refused, *accepted, gap_calls, places_calls, variety_calls, prime_calls, summary_calls
+    later = gap_calls, places_calls, variety_calls, prime_calls, summary_calls, twin_calls
+    parts = bounds, *refused, *accepted, *later
     return dict.fromkeys((code, tuple(args)) for part in parts for code, args in part())
 
 

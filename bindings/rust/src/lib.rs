@@ -387,6 +387,7 @@ pub fn remake(run: Run, position: u64, values: &mut [u64]) -> Result<usize, Refu
 /// let archive = b"4,5,3,1,0,16\n10,371,995,73,100,8\n";
 /// assert_eq!(line(archive, 2), b"10,371,995,73,100,8\n");
 /// assert_eq!(line(archive, 3), b"");
+/// assert_eq!(line(b"4,5,3,1,0,16\n4,5,3,1,0,16\n", 1), b"");
 /// ```
 #[inline]
 pub fn line(archive: &[u8], line: u64) -> &[u8] {
@@ -395,7 +396,7 @@ pub fn line(archive: &[u8], line: u64) -> &[u8] {
 }
 
 /// The earliest line that shows the value and the least position in it, if there is one. The whole
-/// archive is checked first.
+/// archive is checked first; a line that equals an earlier one, byte by byte, is refused.
 ///
 /// ```
 /// use noonpasture::{lookup, Location, Refusal, Refused};
@@ -406,6 +407,9 @@ pub fn line(archive: &[u8], line: u64) -> &[u8] {
 /// let refused = lookup(b"4,5,3,1,0,16\n4,5,3,1,0,0\n", 5).unwrap_err();
 /// assert_eq!(refused, Refused { refusal: Refusal::RunOutOfRange, line: 2 });
 /// assert_eq!(refused.to_string(), "line 2: the count is 0, or first + count is above 2^64 - 1");
+/// let refused = lookup(b"4,5,3,1,0,16\n4,6,1,1,0,5\n4,5,3,1,0,16\n", 5).unwrap_err();
+/// assert_eq!(refused, Refused { refusal: Refusal::DuplicateLine, line: 3 });
+/// assert_eq!(refused.to_string(), "line 3: the line equals an earlier one");
 /// ```
 #[inline]
 pub fn lookup(archive: &[u8], value: u64) -> Result<Option<Location>, Refused> {
@@ -430,6 +434,8 @@ pub fn lookup(archive: &[u8], value: u64) -> Result<Option<Location>, Refused> {
 /// assert_eq!(refused.to_string(), "the sum of the counts is above 2^64 - 1");
 /// let refused = summary(b"4,5,3,1,0,18446744073709551614\n4,6,1,1,0,2\n4,5\n").unwrap_err();
 /// assert_eq!(refused, Refused { refusal: Refusal::MalformedLine, line: 3 });
+/// let refused = summary(b"4,5,3,1,0,18446744073709551614\n4,6,1,1,0,2\n4,6,1,1,0,2\n").unwrap_err();
+/// assert_eq!(refused, Refused { refusal: Refusal::DuplicateLine, line: 3 });
 /// ```
 #[inline]
 pub fn summary(archive: &[u8]) -> Result<Summary, Refused> {

@@ -3,8 +3,9 @@
 use std::error::Error;
 use std::fmt::{self, Display, Formatter};
 
-/// Why a call is refused: the lowest that applies. The numbers are those of
-/// `include/noonpasture.h`.
+/// Why a call is refused: the lowest that applies; of an archive `ArchiveTooLong`, else why its first
+/// refused line is, with `DuplicateLine` as the last reason, else `TotalOverflow`. The numbers are
+/// those of `include/noonpasture.h`.
 #[derive(Clone, Copy, Debug, PartialEq, Eq, Hash)]
 #[non_exhaustive]
 pub enum Refusal {
@@ -18,11 +19,12 @@ pub enum Refusal {
     BufferTooShort,
     PlacesOutOfRange,
     TotalOverflow,
+    DuplicateLine,
 }
 
 impl Refusal {
     /// All of them, in the order of their numbers, which begin with 1.
-    pub const ALL: [Refusal; 10] = [
+    pub const ALL: [Refusal; 11] = [
         Refusal::ArchiveTooLong,
         Refusal::MalformedLine,
         Refusal::WidthOutOfRange,
@@ -33,6 +35,7 @@ impl Refusal {
         Refusal::BufferTooShort,
         Refusal::PlacesOutOfRange,
         Refusal::TotalOverflow,
+        Refusal::DuplicateLine,
     ];
 
     /// ```
@@ -69,6 +72,7 @@ impl Display for Refusal {
             Refusal::BufferTooShort => "the buffer is shorter than the line",
             Refusal::PlacesOutOfRange => "the number of places is 0 or above the width",
             Refusal::TotalOverflow => "the sum of the counts is above 2^64 - 1",
+            Refusal::DuplicateLine => "the line equals an earlier one",
         })
     }
 }

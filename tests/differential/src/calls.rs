@@ -15,6 +15,7 @@ pub const NOT_INVERTIBLE: u64 = 7;
 pub const BUFFER_TOO_SHORT: u64 = 8;
 pub const PLACES_OUT_OF_RANGE: u64 = 9;
 pub const TOTAL_OVERFLOW: u64 = 10;
+pub const DUPLICATE_LINE: u64 = 11;
 
 pub const ARCHIVE_LIMIT: usize = 65_536;
 

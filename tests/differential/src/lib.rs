@@ -1,5 +1,6 @@
 //! What the programs `differential` and `bench` are made of.
 
+pub mod archives;
 pub mod calls;
 pub mod formula;
 pub mod model;

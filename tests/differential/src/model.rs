@@ -1,5 +1,6 @@
 //! Every call of the header once more, independently: sequences by stepping where that is short and by
-//! formula elsewhere, at width 0 by powers and baby steps, lines by splitting the bytes.
+//! formula elsewhere, at width 0 by powers and baby steps, lines by splitting the bytes, equal lines by a set
+//! of the earlier ones.
 
 use std::collections::HashSet;
 
@@ -344,8 +345,13 @@ fn runs(archive: &[u8]) -> Result<Vec<Run>, (u64, u64)> {
     if archive.len() > ARCHIVE_LIMIT {
         return Err((ARCHIVE_TOO_LONG, 0));
     }
-    let numbered = lines(archive).zip(1..);
-    numbered.map(|(line, number)| parsed(line).map_err(|refusal| (refusal, number))).collect()
+    let mut earlier = HashSet::new();
+    let run_of = |line| match parsed(line) {
+        Ok(_) if !earlier.insert(line) => Err(DUPLICATE_LINE),
+        answer => answer,
+    };
+    let answers = lines(archive).map(run_of).zip(1..);
+    answers.map(|(answer, number)| answer.map_err(|refusal| (refusal, number))).collect()
 }
 
 pub fn line(archive: &[u8], number: u64) -> Part {

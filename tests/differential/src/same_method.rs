@@ -1,5 +1,6 @@
 //! The library's own methods in plain Rust, to measure it against: jumps from the lowest bit of the
-//! index up, the search up the bit places, lines in one pass; and at width 0 what `prime` has.
+//! index up, the search up the bit places, lines in one pass, equal ones by chains of those whose hash
+//! falls into one slot; and at width 0 what `prime` has.
 
 use crate::calls::*;
 use crate::prime::PERIOD;
@@ -407,34 +408,138 @@ pub fn read_line(bytes: &[u8]) -> RunReply {
     }
 }
 
-/// Calls `visit` with each run and its line's number until it gives an answer.
+/// A line's number from 1, and where it begins and ends.
+#[derive(Clone, Copy)]
+struct Line {
+    number: u64,
+    start: usize,
+    end: usize,
+}
+
+/// Calls `visit` with each run and its line until it gives an answer.
 fn each_run<T>(
     archive: &[u8],
-    mut visit: impl FnMut(Run, u64) -> Option<T>,
+    mut visit: impl FnMut(Run, Line) -> Option<T>,
 ) -> Result<Option<T>, (u64, u64)> {
-    let (mut at, mut line) = (0, 1);
-    while at < archive.len() {
-        let (run, next) = read(archive, at).map_err(|refusal| (refusal, line))?;
-        if let Some(answer) = visit(run, line) {
+    let (mut start, mut number) = (0, 1);
+    while start < archive.len() {
+        let (run, end) = read(archive, start).map_err(|refusal| (refusal, number))?;
+        if let Some(answer) = visit(run, Line { number, start, end }) {
             return Ok(Some(answer));
         }
-        (at, line) = (next, line + 1);
+        (start, number) = (end, number + 1);
     }
     Ok(None)
 }
 
-fn place_in(run: Run, line: u64, number: u64) -> Option<LookupReply> {
+fn place_in(run: Run, line: Line, number: u64) -> Option<LookupReply> {
     let seed = element_of(run.generator, run.first);
     let position = index_of(Generator { seed, ..run.generator }, number)?;
-    (position < run.count).then_some(LookupReply { refusal: 0, line, found: 1, position })
+    (position < run.count).then_some(LookupReply { refusal: 0, line: line.number, found: 1, position })
 }
+
+/// What each number is multiplied into a hash with, 2^64 over the golden ratio.
+pub const HASH_FACTOR: u64 = 0x9e37_79b9_7f4a_7c15;
+
+fn hash_of(run: &Run) -> u64 {
+    let numbers: [u64; 6] = (*run).into();
+    numbers.iter().fold(0, |hash, &number| HASH_FACTOR.wrapping_mul(number.wrapping_add(hash)))
+}
+
+/// Among so many slots, at most 2^32, by the upper half of the hash.
+pub fn slot_of(run: &Run, slots: usize) -> usize {
+    (((hash_of(run) >> 32) * slots as u64) >> 32) as usize
+}
+
+const SHORT_ARCHIVE: usize = 1024;
+const SHORT_SLOTS: usize = 64;
+const LONG_SLOTS: usize = 4096;
+/// No line is shorter.
+const SHORTEST_LINE: usize = 12;
+
+/// How many slots the chains of an archive of this length have.
+pub fn slots_for(length: usize) -> usize {
+    if length <= SHORT_ARCHIVE {
+        SHORT_SLOTS
+    } else {
+        LONG_SLOTS
+    }
+}
+
+/// The lines so far. A mark is where a line begins, and 1; 0 is none. Of each slot the newest line is
+/// marked, and of each line, found by where it begins, the next older one in its slot.
+struct Chains<const SLOTS: usize, const LINES: usize> {
+    head: [u16; SLOTS],
+    next: [u16; LINES],
+}
+
+impl<const SLOTS: usize, const LINES: usize> Chains<SLOTS, LINES> {
+    fn new() -> Self {
+        Chains { head: [0; SLOTS], next: [0; LINES] }
+    }
+
+    /// Byte by byte, as the library compares; `==` of the slices would take several at once.
+    fn has(&self, archive: &[u8], line: Line, slot: usize) -> bool {
+        let bytes = &archive[line.start..line.end];
+        let mut mark = self.head[slot] as usize;
+        while mark != 0 {
+            let start = mark - 1;
+            let earlier = &archive[start..][..bytes.len()];
+            if earlier.iter().zip(bytes).all(|(one, other)| one == other) {
+                return true;
+            }
+            mark = self.next[start / SHORTEST_LINE] as usize;
+        }
+        false
+    }
+
+    fn add(&mut self, line: Line, slot: usize) {
+        self.next[line.start / SHORTEST_LINE] = self.head[slot];
+        self.head[slot] = (line.start + 1) as u16;
+    }
+
+    /// The refusal and the line that it concerns, if there is one. No archive has more LINES.
+    fn check(mut self, archive: &[u8]) -> Result<(), (u64, u64)> {
+        let twin = each_run(archive, |run, line| {
+            let slot = slot_of(&run, SLOTS);
+            let found = self.has(archive, line, slot);
+            self.add(line, slot);
+            found.then_some(line.number)
+        });
+        twin?.map_or(Ok(()), |number| Err((DUPLICATE_LINE, number)))
+    }
+}
+
+type ShortChains = Chains<SHORT_SLOTS, { SHORT_ARCHIVE / SHORTEST_LINE + 1 }>;
+type LongChains = Chains<LONG_SLOTS, { ARCHIVE_LIMIT / SHORTEST_LINE + 1 }>;
 
 /// The refusal and the line that it concerns, if there is one.
 fn check(archive: &[u8]) -> Result<(), (u64, u64)> {
     if archive.len() > ARCHIVE_LIMIT {
-        return Err((ARCHIVE_TOO_LONG, 0));
+        Err((ARCHIVE_TOO_LONG, 0))
+    } else if archive.len() > SHORT_ARCHIVE {
+        LongChains::new().check(archive)
+    } else {
+        ShortChains::new().check(archive)
     }
-    each_run(archive, |_, _| None::<()>).map(|_| ())
+}
+
+/// The whole archive is checked first, then its lines are counted.
+#[inline(never)]
+pub fn line(archive: &[u8], number: u64) -> Part {
+    if check(archive).is_err() {
+        return Part::default();
+    }
+    let (mut start, mut line_number) = (0, 1);
+    while start < archive.len() {
+        let rest = &archive[start..];
+        let length = rest.iter().position(|&byte| byte == b'\n').map_or(rest.len(), |at| at + 1);
+        if line_number == number {
+            return Part { start: start as u64, length: length as u64 };
+        }
+        (start, line_number) = (start + length, line_number + 1);
+    }
+    Part::default()
 }
 
 /// The whole archive is checked first, then searched.
@@ -451,9 +556,9 @@ pub fn lookup(archive: &[u8], number: u64) -> LookupReply {
 #[inline(never)]
 pub fn summary(archive: &[u8]) -> SummaryReply {
     let (mut line_count, mut total) = (0, 0u64);
-    let add = |run: Run, line| {
+    let add = |run: Run, line: Line| {
         let (sum, overflows) = total.overflowing_add(run.count);
-        (line_count, total) = (line, sum);
+        (line_count, total) = (line.number, sum);
         overflows.then_some(TOTAL_OVERFLOW)
     };
     match check(archive).and_then(|()| each_run(archive, add)) {
@@ -466,6 +571,7 @@ pub fn summary(archive: &[u8]) -> SummaryReply {
 #[cfg(test)]
 mod tests {
     use super::*;
+    use crate::archives::ABOUT_TWINS;
     use crate::random::Random;
     use crate::{model, samples};
 
@@ -501,14 +607,24 @@ mod tests {
     }
 
     #[test]
-    fn lookup_agrees_with_the_model() {
+    fn lookup_and_line_agree_with_the_model() {
         let mut r = Random::new(9);
         for _ in 0..1000 {
             let archive = samples::archive(&mut r, samples::mixed_run, 8);
-            for number in archive.numbers {
+            for (number, line_number) in archive.numbers.into_iter().zip(0..) {
                 let (ours, theirs) = (lookup(&archive.bytes, number), model::lookup(&archive.bytes, number));
                 assert_eq!(ours, theirs, "{number} in {}", archive.bytes.escape_ascii());
+                let (ours, theirs) =
+                    (line(&archive.bytes, line_number), model::line(&archive.bytes, line_number));
+                assert_eq!(ours, theirs, "line {line_number} of {}", archive.bytes.escape_ascii());
             }
+        }
+    }
+
+    #[test]
+    fn check_agrees_with_the_model() {
+        for archive in ABOUT_TWINS.iter().flat_map(|archives| archives()) {
+            assert_eq!(summary(&archive), model::summary(&archive), "{}", archive.escape_ascii());
         }
     }
 

@@ -1,6 +1,8 @@
 //! Random arguments for the calls: mostly accepted ones of every kind, some that are refused, and
 //! lines and archives of both sorts.
 
+use std::collections::HashSet;
+
 use crate::calls::*;
 use crate::random::Random;
 use crate::{model, prime};
@@ -285,9 +287,31 @@ fn numbers_for(r: &mut Random, runs: &[Run], count: usize) -> Vec<u64> {
     (0..count).map(|_| one()).collect()
 }
 
-/// The lines of the runs, one time in four with a damaged one.
+/// So many runs, no two of them equal.
+fn different_runs(r: &mut Random, make_run: MakeRun, count: u64) -> Vec<Run> {
+    let (mut runs, mut seen) = (Vec::new(), HashSet::new());
+    while (runs.len() as u64) < count {
+        let run = make_run(r);
+        if seen.insert(run) {
+            runs.push(run);
+        }
+    }
+    runs
+}
+
+/// Puts one of the lines in once more, at a later place.
+fn repeat_line(r: &mut Random, lines: &mut Vec<Vec<u8>>) {
+    let line = r.below(lines.len() as u64) as usize;
+    let later = line + 1 + r.below((lines.len() - line) as u64) as usize;
+    lines.insert(later, lines[line].clone());
+}
+
+/// The lines of the runs, one time in eight with one of them twice, and one time in four with a damaged one.
 fn lines_of(r: &mut Random, runs: &[Run]) -> Vec<u8> {
     let mut lines: Vec<Vec<u8>> = runs.iter().map(line_of).collect();
+    if !lines.is_empty() && r.one_in(8) {
+        repeat_line(r, &mut lines);
+    }
     if !lines.is_empty() && r.one_in(4) {
         let at = r.below(lines.len() as u64) as usize;
         lines[at] = damaged_line(r, lines[at].clone());
@@ -295,10 +319,19 @@ fn lines_of(r: &mut Random, runs: &[Run]) -> Vec<u8> {
     lines.concat()
 }
 
-/// Up to 40 lines.
+/// The same archive with one of its lines once more, at a later place.
+pub fn with_twin(r: &mut Random, archive: &[u8]) -> Vec<u8> {
+    let mut lines: Vec<Vec<u8>> =
+        archive.split_inclusive(|&byte| byte == b'\n').map(<[u8]>::to_vec).collect();
+    repeat_line(r, &mut lines);
+    lines.concat()
+}
+
+/// Of up to 40 different runs.
 pub fn archive(r: &mut Random, make_run: MakeRun, numbers: usize) -> Archive {
     let most = r.below(41);
-    let runs: Vec<Run> = (0..r.below(most + 1)).map(|_| make_run(r)).collect();
+    let count = r.below(most + 1);
+    let runs = different_runs(r, make_run, count);
     let numbers = numbers_for(r, &runs, numbers);
     Archive { bytes: lines_of(r, &runs), numbers }
 }
@@ -327,10 +360,11 @@ fn sum_to_about_2_64(r: &mut Random, runs: &mut [Run]) {
     }
 }
 
-/// Up to eight lines: with counts as they come, or with a sum of about 2^64.
+/// Of up to eight different runs: with counts as they come, or with a sum of about 2^64.
 pub fn archive_to_sum(r: &mut Random, make_run: MakeRun) -> Vec<u8> {
     let make_run = r.pick(&[make_run, small_run]);
-    let mut runs: Vec<Run> = (0..r.below(9)).map(|_| make_run(r)).collect();
+    let count = r.below(9);
+    let mut runs = different_runs(r, make_run, count);
     if r.one_in(2) {
         sum_to_about_2_64(r, &mut runs);
     }
@@ -349,18 +383,20 @@ fn run_of_length(length: usize) -> Run {
     Run::from(numbers)
 }
 
-/// An archive of exactly this length, all of whose lines are accepted.
+/// An archive of exactly this length, all of whose lines are accepted and different.
 pub fn archive_of_length(r: &mut Random, make_run: MakeRun, length: usize, numbers: usize) -> Archive {
     let mut bytes = Vec::with_capacity(length);
-    let mut runs = Vec::new();
+    let (mut runs, mut seen) = (Vec::new(), HashSet::new());
     while bytes.len() < length {
         let run = match length - bytes.len() {
             left @ 0..=85 => run_of_length(left),
-            left @ 86..=191 => run_of_length((left / 2).min(85)),
+            left @ 86..=191 => run_of_length((left / 2 - 1).min(85)), // the others will be of other lengths
             _ => make_run(r),
         };
-        bytes.extend(line_of(&run));
-        runs.push(run);
+        if seen.insert(run) {
+            bytes.extend(line_of(&run));
+            runs.push(run);
+        }
     }
     Archive { bytes, numbers: numbers_for(r, &runs, numbers) }
 }

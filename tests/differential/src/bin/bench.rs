@@ -9,11 +9,13 @@
 //! Without the features `index-places` and `summary` the rows of these calls are left out, without
 //! `prime-modulus` those of width 0.
 
+use std::collections::HashSet;
 use std::env;
 use std::fmt::Display;
 use std::hint::black_box;
 use std::time::{Duration, Instant};
 
+use noonpasture_differential::archives::{fitting, full_slot, runs_in_one_slot};
 use noonpasture_differential::calls::*;
 use noonpasture_differential::random::Random;
 use noonpasture_differential::samples::full_period_generator;
@@ -21,6 +23,8 @@ use noonpasture_differential::{library, peers, same_method};
 
 const SEED: u64 = 20_260_102;
 const ROUNDS: usize = 101;
+/// Where one call takes longer than a round of others.
+const FEW_ROUNDS: usize = 7;
 const ROUND: Duration = Duration::from_millis(3);
 /// Many, lest the processor learn the branches of a few by heart.
 const INPUTS: usize = 1000;
@@ -50,14 +54,24 @@ fn timed<I: Copy, R>(inputs: &[I], repeats: usize, call: &mut impl FnMut(I) -> R
 
 fn measured<I: Copy, R: PartialEq>(
     inputs: &[I],
+    library: impl FnMut(I) -> R,
+    other: impl FnMut(I) -> R,
+) -> Timing {
+    measured_in(ROUNDS, inputs, library, other)
+}
+
+fn measured_in<I: Copy, R: PartialEq>(
+    rounds: usize,
+    inputs: &[I],
     mut library: impl FnMut(I) -> R,
     mut other: impl FnMut(I) -> R,
 ) -> Timing {
     assert!(inputs.iter().all(|&input| library(input) == other(input)), "the two sides differ");
-    let once = timed(inputs, 1, &mut library) * inputs.len() as f64;
+    let slower = timed(inputs, 1, &mut library).max(timed(inputs, 1, &mut other));
+    let once = slower * inputs.len() as f64;
     let repeats = 1 + (ROUND.as_nanos() as f64 / once) as usize;
     let round = |_| (timed(inputs, repeats, &mut library), timed(inputs, repeats, &mut other));
-    let rounds: Vec<(f64, f64)> = (0..ROUNDS).map(round).collect();
+    let rounds: Vec<(f64, f64)> = (0..rounds).map(round).collect();
     Timing {
         library: median(rounds.iter().map(|(library, _)| *library).collect()),
         other: median(rounds.iter().map(|(_, other)| *other).collect()),
@@ -133,18 +147,28 @@ fn wide_run(r: &mut Random) -> Run {
     Run { generator: wide_generator(r), first: r.word() / 2, count: 1 + r.below(1000) }
 }
 
-/// Lines of runs, as many as fit, and the last run.
+/// Its line has about 17 bytes.
+fn short_run(r: &mut Random) -> Run {
+    let [multiplier, increment, seed] = [r.bits(4), r.bits(4), r.bits(4)];
+    let generator = Generator { width: 4, multiplier, increment, seed };
+    Run { generator, first: r.below(10_000), count: 1 + r.below(100) }
+}
+
+/// Lines of different runs, as many as fit, and the last run.
 fn archive(r: &mut Random, make_run: Make<Run>, length: usize) -> (Vec<u8>, Run) {
     let mut last = make_run(r);
     let mut bytes = line_of(&last);
+    let mut seen = HashSet::from([last]);
     loop {
         let run = make_run(r);
         let line = line_of(&run);
         if bytes.len() + line.len() > length {
             return (bytes, last);
         }
-        bytes.extend(line);
-        last = run;
+        if seen.insert(run) {
+            bytes.extend(line);
+            last = run;
+        }
     }
 }
 
@@ -194,6 +218,18 @@ fn lookup(inputs: &[(Vec<u8>, u64)]) -> Timing {
         &inputs,
         |(archive, y)| library::lookup(archive, y),
         |(archive, y)| same_method::lookup(archive, y),
+    )
+}
+
+/// The check of the whole archive, timed as the call line for line 1: all that this adds is the end of one
+/// line.
+fn check(rounds: usize, archives: &[Vec<u8>]) -> Timing {
+    let archives: Vec<&[u8]> = archives.iter().map(Vec::as_slice).collect();
+    measured_in(
+        rounds,
+        &archives,
+        |archive| library::line(archive, 1),
+        |archive| same_method::line(archive, 1),
     )
 }
 
@@ -424,17 +460,34 @@ mod prime_modulus {
     }
 }
 
+/// The rows of the check: few lines, archives of growing length, and those that take longest, all of whose
+/// lines are in one slot of the chains. They have random numbers of their own as well. No archive has equal
+/// lines, so that a library before version 0.11.0, which takes them, gives the same.
+fn checks(out: &Output) {
+    let r = &mut Random::new(SEED + 5);
+    out.heading("check", "Rust");
+    let two_lines = [b"4,5,3,1,0,16\n10,371,995,73,100,8\n".to_vec()];
+    out.row("check", "2 lines, 33 bytes", || check(ROUNDS, &two_lines));
+    for (make_run, bytes_of) in [(short_run as Make<Run>, 17), (wide_run, 95)] {
+        for parts in [8, 4, 2, 1] {
+            let one = |_| archive(r, make_run, ARCHIVE_LIMIT / parts).0;
+            let archives: Vec<Vec<u8>> = (0..parts).map(one).collect();
+            let input = format!("up to {} bytes in lines of about {bytes_of}", ARCHIVE_LIMIT / parts);
+            out.row("check", input, || check(ROUNDS, &archives));
+        }
+    }
+    let long = Run::from([64, u64::MAX, u64::MAX, u64::MAX, 1_000_000_000_000_000_000, 1_000_000]);
+    let long_lines = fitting(runs_in_one_slot(long, same_method::slots_for(ARCHIVE_LIMIT)), ARCHIVE_LIMIT);
+    for lines in [full_slot(), long_lines] {
+        let input = format!("{} lines of {} bytes, all in one slot", lines.len(), lines[0].len());
+        out.row("check", input, || check(FEW_ROUNDS, &[lines.concat()]));
+    }
+}
+
 /// The rows of the summary. They have random numbers of their own as well.
 #[cfg(feature = "summary")]
 mod summaries {
     use super::*;
-
-    /// Its line has about 17 bytes.
-    fn short_run(r: &mut Random) -> Run {
-        let [multiplier, increment, seed] = [r.bits(4), r.bits(4), r.bits(4)];
-        let generator = Generator { width: 4, multiplier, increment, seed };
-        Run { generator, first: r.below(10_000), count: 1 + r.below(100) }
-    }
 
     fn summary(archive: &[u8]) -> Timing {
         measured(&[archive], library::summary, same_method::summary)
@@ -460,6 +513,7 @@ fn main() {
     beside_index(&out, &mut r);
     growth(&out, &mut r);
     varieties(&out);
+    checks(&out);
     #[cfg(feature = "index-places")]
     places::rows(&out);
     #[cfg(feature = "prime-modulus")]

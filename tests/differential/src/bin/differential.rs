@@ -1,7 +1,8 @@
 //! Compares every call of the proved library with the model: on all generators of widths 1 to 5 and all
 //! their low bits, at widths 1 to 4 on all short runs for the variety and all pairs of numbers for the
 //! gap, at width 0 on every digit of the index by itself, for the summary on chosen sums, cut archives and
-//! every changed byte, and on random calls, accepted and refused. Ends with status 1 at the first difference.
+//! every changed byte, for equal lines on twins at every place, almost equal lines and lines of one slot, and
+//! on random calls, accepted and refused. Ends with status 1 at the first difference.
 //!
 //!     cargo run --release --bin differential
 
@@ -10,6 +11,7 @@ use std::ops::RangeInclusive;
 use std::thread;
 use std::time::Instant;
 
+use noonpasture_differential::archives::{lines_with, with_line, ABOUT_TWINS, BAD_LINES};
 use noonpasture_differential::calls::*;
 use noonpasture_differential::random::Random;
 use noonpasture_differential::samples::MakeRun;
@@ -61,9 +63,9 @@ const KINDS: [&str; 15] = [
 
 /// What replies are counted by: an answer, a refusal by its number, or nothing, which is never,
 /// none, the empty part or no number remade.
-const OUTCOMES: [&str; 12] = ["answer", "1", "2", "3", "4", "5", "6", "7", "8", "9", "10", "nothing"];
+const OUTCOMES: [&str; 13] = ["answer", "1", "2", "3", "4", "5", "6", "7", "8", "9", "10", "11", "nothing"];
 const ANSWER: usize = 0;
-const NOTHING: usize = 11;
+const NOTHING: usize = 12;
 
 trait Reply: PartialEq + Debug {
     fn refusal(&self) -> u64;
@@ -604,15 +606,6 @@ fn random_prime_indices(share: u64) -> Tally {
 // Summaries: sums about 2^64, bad lines among them, archives about as long as they may be; every beginning of
 // some archives, and each of their bytes changed to every other.
 
-/// Different lines, of even multipliers and of width 0 too, with these counts.
-fn lines_with(counts: &[u64]) -> Vec<Vec<u8>> {
-    let kinds = [[64, 5, 3], [64, 6, 1], [0, 16_807, 0]].into_iter().cycle();
-    let runs = counts.iter().zip(1..).zip(kinds).map(|((&count, seed), [width, multiplier, increment])| {
-        Run::from([width, multiplier, increment, seed, 0, count])
-    });
-    runs.map(|run| line_of(&run)).collect()
-}
-
 /// By so many lines of the same count, but for the first or the last, which has the rest as well.
 fn chosen_sums(tally: &mut Tally) {
     for lines in (2..=40).chain([100, 500, 1000, 1900]) {
@@ -627,19 +620,13 @@ fn chosen_sums(tally: &mut Tally) {
     }
 }
 
-/// Of refusals 2 to 5.
-const BAD_LINES: [&[u8]; 5] =
-    [b"4,5,3,1,0\n", b"65,5,3,1,0,16\n", b"4,16,3,1,0,16\n", b"0,16807,0,0,0,16\n", b"4,5,3,1,0,0\n"];
-
 /// Each at every place of archives whose sum is small, the largest, too large at once, and too large at last.
 fn bad_lines_among_sums(tally: &mut Tally) {
     const MAX: u64 = u64::MAX;
     for counts in [[1, 2, 3, 4], [1, MAX - 6, 2, 3], [MAX, MAX, 1, 1], [1, 1, MAX - 2, 1]] {
         for bad in BAD_LINES {
             for place in 0..=counts.len() {
-                let mut lines = lines_with(&counts);
-                lines.insert(place, bad.to_vec());
-                tally.summary(&lines.concat());
+                tally.summary(&with_line(&lines_with(&counts), place, bad).concat());
             }
         }
     }
@@ -674,6 +661,29 @@ fn chosen_summaries() -> Tally {
     bad_lines_among_sums(&mut tally);
     cut_and_changed(&mut tally);
     long_summaries(&mut tally);
+    tally
+}
+
+// Equal lines.
+
+/// Lookups of numbers that line 1 mostly shows and of one that no line does, lines at both ends and in the
+/// middle, and the summary.
+fn calls_on(tally: &mut Tally, archive: &[u8]) {
+    for number in [1, 5, u64::MAX] {
+        tally.lookup(archive, number);
+    }
+    let lines = archive.iter().filter(|&&byte| byte == b'\n').count() as u64;
+    for number in [0, 1, 2, lines / 2, lines, lines + 1] {
+        tally.line(archive, number);
+    }
+    tally.summary(archive);
+}
+
+fn chosen_twins() -> Tally {
+    let mut tally = Tally::default();
+    for archives in ABOUT_TWINS {
+        archives().iter().for_each(|archive| calls_on(&mut tally, archive));
+    }
     tally
 }
 
@@ -756,12 +766,15 @@ fn random_archives(r: &mut Random, tally: &mut Tally, make_run: MakeRun, calls: 
     }
 }
 
-/// Archives about as long as they may be: whole, and with one byte damaged.
+/// Archives about as long as they may be: whole, with one byte damaged, and with a line twice.
 fn long_archives(r: &mut Random, tally: &mut Tally, make_run: MakeRun) {
     for length in ARCHIVE_LIMIT - 8..ARCHIVE_LIMIT + 8 {
         let mut archive = samples::archive_of_length(r, make_run, length, 8);
         on_archive(r, tally, &archive);
         archive.bytes = samples::damaged(r, archive.bytes);
+        on_archive(r, tally, &archive);
+        archive = samples::archive_of_length(r, make_run, length - 90, 8);
+        archive.bytes = samples::with_twin(r, &archive.bytes);
         on_archive(r, tally, &archive);
     }
 }
@@ -819,6 +832,7 @@ fn main() {
     shared(all_pairs).print("all pairs, widths 1 to 4");
     chosen_periods().print("periods of 1, 2, 2^63 and 2^64");
     chosen_summaries().print("summaries, chosen archives");
+    chosen_twins().print("equal lines, chosen archives");
     shared(random_calls).print("random calls");
     prime_digits().print("width 0, digits of the index");
     chosen_prime_calls().print("width 0, chosen calls");

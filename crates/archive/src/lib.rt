@@ -54,7 +54,7 @@ pub struct Part {
     pub length: usize,
 }
 
-// The whole archive, line by line.
+// The whole archive: its length, then its lines.
 pub fn checked(archive: &[u8]) -> ArchiveCheck
     ensures { λ r. ⌜ CheckPromise (now (archive .entry)) (checkReply r) ⌝ }
 {

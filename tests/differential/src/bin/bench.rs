@@ -460,8 +460,8 @@ mod prime_modulus {
     }
 }
 
-/// The rows of the check: few lines, archives of growing length, and those that take longest, all of whose
-/// lines are in one slot of the chains. They have random numbers of their own as well. No archive has equal
+/// The rows of the check: few lines, archives of growing length, a lookup in short lines, and the archives that
+/// take longest, all of whose lines are in one slot of the chains. They have random numbers of their own as well. No archive has equal
 /// lines, so that a library before version 0.11.0, which takes them, gives the same.
 fn checks(out: &Output) {
     let r = &mut Random::new(SEED + 5);
@@ -476,6 +476,10 @@ fn checks(out: &Output) {
             out.row("check", input, || check(ROUNDS, &archives));
         }
     }
+    // A number too wide for these lines takes no search: nowhere does the check weigh more in a lookup.
+    let short_lines = archive(r, short_run, ARCHIVE_LIMIT).0;
+    let input = format!("{} bytes in lines of about 17, none", short_lines.len());
+    out.row("lookup", input, || lookup(&[(short_lines, 16)]));
     let long = Run::from([64, u64::MAX, u64::MAX, u64::MAX, 1_000_000_000_000_000_000, 1_000_000]);
     let long_lines = fitting(runs_in_one_slot(long, same_method::slots_for(ARCHIVE_LIMIT)), ARCHIVE_LIMIT);
     for lines in [full_slot(), long_lines] {

@@ -13,9 +13,9 @@
  * be good for the length that comes with it; a null pointer is good with length 0. No call
  * allocates, keeps a pointer or has a state, so all of them may run at once in several threads.
  *
- * The first field of a reply is the refusal: 0, or the lowest NP_REFUSED_.. that applies, of an
- * archive the first in the order below. Beside a refusal every other field is 0 (but for the line
- * that it concerns, in a lookup or a summary) and nothing is written.
+ * The first field of a reply is the refusal: 0, or the lowest NP_REFUSED_.. that applies; for an
+ * archive the order is said at their list. Beside a refusal every other field is 0 (but for the
+ * line that it concerns, in a lookup or a summary) and nothing is written.
  */
 #ifndef NOONPASTURE_H
 #define NOONPASTURE_H

@@ -85,6 +85,7 @@ searches() {
     answers 'equal lines, neither shows it' '16\n' refused,11,2
     archive '4,5,3,1,0,16\n10,371,995,73,100,8\n4,5,3,1,0,16\n'
     answers 'equal lines, only the one between them shows it' '49\n' refused,11,3
+    # The second seed is 1 less the hash's factor, 11400714819323198485, modulo 2^64.
     archive '64,5,0,1,0,9\n64,5,1,7046029254386353132,0,9\n'
     answers 'different lines to which the check gives the same hash' '7046029254386353132\n' 2,0
     archive '4,5,3,1,0,16\n4,5,3,1,4,2\n'

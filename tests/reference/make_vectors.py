@@ -815,7 +815,7 @@ def summary_calls():
             yield "S", (archive,)
 
 
-# For lines that equal an earlier one. Line 1 of these archives shows 1, unless it is refused.
+# For lines that equal an earlier one.
 
 
 def in_place_of_equal_lines():
@@ -875,8 +875,9 @@ def twins_about_a_sum():
             yield [*lines[:later], lines[earlier], *lines[later:]]
 
 
-# How the library keeps lines to find their twins: by a hash of the six numbers, in 64 slots or, for a longer archive
-# than can stand here, in 4,096. Only lines of one slot are compared.
+# How the library keeps lines to find their twins: by a hash of the six numbers, in 64 slots, or in more for a longer
+# archive than can stand here. Only lines of one slot are compared.
+SLOTS = 64
 HASH_FACTOR = 0x9E3779B97F4A7C15
 
 
@@ -887,13 +888,17 @@ def hash_of(run):
     return value
 
 
-def slot_of(run, slots):
-    return (hash_of(run) >> 32) * slots >> 32
+def slot_of(run):
+    return (hash_of(run) >> 32) * SLOTS >> 32
 
 
-def runs_in_one_slot(slots):
+# As chains/proofs/Examples.antt has them.
+assert [slot_of(run) for run in ((4, 5, 3, 1, 0, 16), (10, 371, 995, 73, 100, 8))] == [57, 59]
+
+
+def runs_in_one_slot():
     runs = ((9, 5, 3, 1, 0, count) for count in range(1, TOP))
-    return (run for run in runs if slot_of(run, slots) == slot_of((9, 5, 3, 1, 0, 1), slots))
+    return (run for run in runs if slot_of(run) == slot_of((9, 5, 3, 1, 0, 1)))
 
 
 def runs_of_one_hash():
@@ -908,14 +913,14 @@ def beginnings_in_one_slot():
     """Pairs of runs of which one has the other's line, up to its byte 10, and a digit more."""
     for count, digit in product(range(1, 200), range(10)):
         run, longer = (9, 5, 3, 1, 0, count), (9, 5, 3, 1, 0, 10 * count + digit)
-        if slot_of(run, 64) == slot_of(longer, 64):
+        if slot_of(run) == slot_of(longer):
             yield run, longer
 
 
 def colliding_lines():
     """Lines of one slot and of one hash, as many as fit a vector, and with each of them repeated as the last;
     two of one slot of which one begins as the other does, in both orders."""
-    for runs, fitting in ((runs_in_one_slot(64), 15), (runs_in_one_slot(4096), 14), (runs_of_one_hash(), 5)):
+    for runs, fitting in ((runs_in_one_slot(), 15), (runs_of_one_hash(), 5)):
         lines = [ref.line_of(run) for run in islice(runs, fitting)]
         yield lines
         yield from ((*lines, twin) for twin in lines)

@@ -3,8 +3,8 @@
 use std::error::Error;
 use std::fmt::{self, Display, Formatter};
 
-/// Why a call is refused: the lowest that applies; of an archive `ArchiveTooLong`, else why its first
-/// refused line is, with `DuplicateLine` as the last reason, else `TotalOverflow`. The numbers are
+/// Why a call is refused: the lowest that applies; of an archive `ArchiveTooLong`, else the reason of
+/// its first refused line, `DuplicateLine` the last of these, else `TotalOverflow`. The numbers are
 /// those of `include/noonpasture.h`.
 #[derive(Clone, Copy, Debug, PartialEq, Eq, Hash)]
 #[non_exhaustive]

@@ -8,13 +8,13 @@ use mathlib.Core.List.{List, [], _∷_, _++_}
 use Prim.Native.Nat.{ℕ, _+_, _*_, _-_, _≤_, _<_}
 use native.Mathlib.Decide.{ℕ-discrete}
 use native.Mathlib.Omega.{arith}
-use lib.ListN.{length, getD, take, drop, length-append, length-set, take-append-drop}
-use Rattle.fields.specs.Line.{fieldsLine, sameBytes}
-use Rattle.fields.proofs.Digits.{digits-nonempty}
-use Rattle.fields.proofs.Numbers.{same-test}
+use lib.ListN.{length, getD, take, drop, replicate, length-drop, length-set, take-append-drop}
+use lib.Seq.{length-take-le}
+use Rattle.fields.specs.Line.{sameBytes}
+use Rattle.fields.proofs.Numbers.{same-test, fields-long}
 use Rattle.chains.specs.Hash.{slotOf}
-use Rattle.chains.specs.Chains.{stands, standsAmong, Tables, Cleared, Seen}
-use Rattle.chains.proofs.Linking.{cleared-tables, cleared-none, seen-tables, seen-own, seen-other}
+use Rattle.chains.specs.Chains.{stands, standsAmong, Tables, Seen}
+use Rattle.chains.proofs.Linking.{seen-tables, seen-own, seen-other, zeros-tables, zeros-none}
 use Rattle.lines.specs.declared.Run.{Run}
 use Rattle.lines.specs.Line.{numbersOf, lineOf}
 use Rattle.lines.proofs.Reading.{line-run}
@@ -24,14 +24,16 @@ use Rattle.archive.specs.Chained.{Chained, SeenLine}
 use Rattle.archive.proofs.Splitting.{part-line}
 use Rattle.archive.proofs.Twins.{contrary, same-lines, other-lines}
 
--- a line has two bytes for each of its numbers, or more
-fields-long : (vs : List ℕ) → 2 * length vs ≤ length (fieldsLine vs)
-unfolding fieldsLine
-fields-long [] = omega arith
-fields-long (v ∷ vs) = simp length-append (omega (arith, digits-nonempty v, fields-long vs))
-
+-- a line has 12 bytes or more
 pub line-long : (run : Run) → 12 ≤ length (lineOf run)
 line-long run = fields-long (numbersOf run)
+
+-- where it ends
+pub line-size : (bytes : List ℕ) {at end : ℕ} (run : Run) → at ≤ end → end ≤ length bytes →
+    take (end - at) (drop at bytes) ≡ lineOf run → at + length (lineOf run) ≡ end
+line-size bytes {at} {end} run l h e =
+    let size = length-take-le (end - at) (drop at bytes) (simp length-drop (omega arith)) in
+    omega (arith, size, ap length e)
 
 -- bytes that start with the line of a run have it as their first line
 starts : (bytes : List ℕ) (run : Run) → take (length (lineOf run)) bytes ≡ lineOf run → firstPart bytes ≡ lineOf run
@@ -40,17 +42,25 @@ starts bytes run e =
     ap firstPart (sym (take-append-drop (length (lineOf run)) bytes) ∙ ap (λ (l : List ℕ). l ++ rest) e) ∙ part-line run rest
 
 -- No line before.
-pub chained-start : {bytes head next : List ℕ} → Cleared bytes head next → Chained bytes 0 head next []
+pub zeros-chained : {bytes : List ℕ} (slots entries : ℕ) → (0 < slots) × (slots ≤ 65536) → length bytes ≤ 12 * entries →
+    Chained bytes 0 (replicate slots 0) (replicate entries 0) []
 unfolding isAmong
-chained-start z = record { tables = cleared-tables z; law = λ run. sym (cleared-none z (lineOf run) _) }
+zeros-chained {bytes} slots entries s r =
+    record {
+      tables = zeros-tables slots entries s r;
+      law = λ run. sym (zeros-none bytes (replicate entries 0) (lineOf run) slots _);
+    }
 
 -- One line more.
 module _ {bytes : List ℕ} {at end slot : ℕ} {head next head' next' : List ℕ} {seen : Bool} (run : Run)
-    (own : slot ≡ slotOf (numbersOf run) (length head)) (inside : slot < length head) (size : at + length (lineOf run) ≡ end)
+    (own : slot ≡ slotOf (numbersOf run) (length head)) (inside : slot < length head) (ahead : at ≤ end)
     (within : end ≤ length bytes) (read : take (end - at) (drop at bytes) ≡ lineOf run)
     (told : Seen bytes at end slot head next head' next' seen) where
   abbrev line : List ℕ
   line = take (end - at) (drop at bytes)
+
+  size : at + length (lineOf run) ≡ end
+  size = line-size bytes run ahead within read
 
   -- the line stands at `at` exactly if it is the one there
   stands-there : (other : Run) → sameBytes line (lineOf other) ≡ stands bytes (lineOf other) at
@@ -58,13 +68,13 @@ module _ {bytes : List ℕ} {at end slot : ℕ} {head next head' next' : List �
     where
       first : firstPart (drop at bytes) ≡ line
       first =
-          let n : length (lineOf run) ≡ end - at = omega arith in
+          let n : length (lineOf run) ≡ end - at = omega (arith, size) in
           starts (drop at bytes) run (ap (λ (k : ℕ). take k (drop at bytes)) n ∙ read) ∙ sym read
 
       go : (b : Bool) → sameBytes line (lineOf other) ≡ b → sameBytes line (lineOf other) ≡ stands bytes (lineOf other) at
       go true t =
           let e : line ≡ lineOf other = same-test line (lineOf other) t in
-          let n : end - at ≡ length (lineOf other) = omega (arith, ap length (sym read ∙ e)) in
+          let n : end - at ≡ length (lineOf other) = omega (arith, size, ap length (sym read ∙ e)) in
           ap (λ (k : ℕ). sameBytes (take k (drop at bytes)) (lineOf other)) n
       go false f =
           f ∙ sym
@@ -72,7 +82,7 @@ module _ {bytes : List ℕ} {at end slot : ℕ} {head next head' next' : List �
 
   module _ {before : List (List ℕ)} (c : Chained bytes at head next before) where
     tables : Tables bytes end head' next'
-    tables = seen-tables (c .tables) told inside (omega (arith, line-long run)) within
+    tables = seen-tables (c .tables) told inside (omega (arith, size, line-long run)) within
 
     -- the lines of one slot, and of another
     same-slot : (other : Run) → slotOf (numbersOf other) (length head) ≡ slot →
@@ -81,7 +91,7 @@ module _ {bytes : List ℕ} {at end slot : ℕ} {head next head' next' : List �
     same-slot other e =
         ap₂ (λ (a b : Bool). a || b) (stands-there other)
         (c .law other ∙ ap (λ (s : ℕ). standsAmong bytes next (lineOf other) (getD head s 0)) e)
-        ∙ sym (seen-own (c .tables) told inside (omega (arith, line-long run)) within (lineOf other))
+        ∙ sym (seen-own (c .tables) told inside (omega (arith, size, line-long run)) within (lineOf other))
         ∙ ap (λ (s : ℕ). standsAmong bytes next' (lineOf other) (getD head' s 0)) (sym e)
 
     other-slot : (other : Run) → (slotOf (numbersOf other) (length head) ≡ slot → ⊥) →
@@ -93,7 +103,7 @@ module _ {bytes : List ℕ} {at end slot : ℕ} {head next head' next' : List �
         (λ e. d (ap (λ (r : Run). slotOf (numbersOf r) (length head)) (sym (line-run (sym read ∙ e))) ∙ sym own)) in
         ap (λ (b : Bool). b || isAmong (lineOf other) before) unlike
         ∙ c .law other
-        ∙ sym (seen-other (c .tables) told inside (omega (arith, line-long run)) within (lineOf other) d)
+        ∙ sym (seen-other (c .tables) told inside (omega (arith, size, line-long run)) within (lineOf other) d)
 
     added : Chained bytes end head' next' (line ∷ before)
     added =

@@ -1,6 +1,7 @@
 -- The check of an archive, by its definition: it goes by the first line that is refused, by `read_line` or as equal to an
--- earlier one. So an archive is accepted exactly if its bytes are the lines of accepted runs, none equal to an earlier one.
--- Behind the check a walk over the lines, with no state, meets none that `read_line` refuses.
+-- earlier one. An accepted line is that of the run in it, so an archive is accepted exactly if its bytes are the lines of
+-- accepted runs, none equal to an earlier one. Behind the check a walk over the lines, with no state, meets none that
+-- `read_line` refuses.
 use mathlib.Core.Path.{_≡_, refl, sym, ap, ap₂, _∙_, subst}
 use mathlib.Core.Logic.{by-cases}
 use mathlib.Core.Bool.{Bool, true, false, cond}
@@ -33,15 +34,15 @@ firstUnread k (line ∷ lines) =
     elim (readOf line .refusal) [ zero ↦ firstUnread (suc k) lines | suc n ↦ refusedAt (suc n) k ]
 
 -- a line is accepted, or refused
-pub refused-next : (k : ℕ) (line : List ℕ) (lines : List (List ℕ)) → readOf line .refusal ≡ 0 →
+pub unread-next : (k : ℕ) (line : List ℕ) (lines : List (List ℕ)) → readOf line .refusal ≡ 0 →
     firstUnread k (line ∷ lines) ≡ firstUnread (suc k) lines
 unfolding firstUnread
-refused-next k line lines e = rw (e, firstUnread)
+unread-next k line lines e = rw (e, firstUnread)
 
-pub refused-here : (k : ℕ) (line : List ℕ) (lines : List (List ℕ)) → (readOf line .refusal ≡ 0 → ⊥) →
+pub unread-here : (k : ℕ) (line : List ℕ) (lines : List (List ℕ)) → (readOf line .refusal ≡ 0 → ⊥) →
     firstUnread k (line ∷ lines) ≡ refusedAt (readOf line .refusal) k
 unfolding firstUnread
-refused-here k line lines d = go (readOf line .refusal) refl
+unread-here k line lines d = go (readOf line .refusal) refl
   where
     go : (n : ℕ) → readOf line .refusal ≡ n → firstUnread k (line ∷ lines) ≡ refusedAt (readOf line .refusal) k
     go zero e = absurd (d e)
@@ -56,15 +57,15 @@ none-unread k (line ∷ lines) e =
     by-cases (ℕ-discrete (readOf line .refusal) 0)
     (λ z.
     let a = accepted-line line z in
-    let r = rest (sym (ap (λ (c : CheckReply). c .refusal) (refused-next k line lines z)) ∙ e) in
+    let r = rest (sym (ap (λ (c : CheckReply). c .refusal) (unread-next k line lines z)) ∙ e) in
     ((a .0, r .0), ap₂ (λ (l : List ℕ) (ls : List (List ℕ)). l ∷ ls) (a .1 .line) (r .1)))
-    (λ d. absurd (d (sym (ap (λ (c : CheckReply). c .refusal) (refused-here k line lines d)) ∙ e)))
+    (λ d. absurd (d (sym (ap (λ (c : CheckReply). c .refusal) (unread-here k line lines d)) ∙ e)))
 
 -- and the lines of accepted runs are accepted
 runs-accepted : (k : ℕ) (runs : List Run) → AllAccepted runs → firstUnread k (map lineOf runs) .refusal ≡ 0
 runs-accepted k [] a = unfold firstUnread in refl
 runs-accepted k (run ∷ runs) a =
-    ap (λ (c : CheckReply). c .refusal) (refused-next k (lineOf run) (map lineOf runs) (own-accepted run (a .0)))
+    ap (λ (c : CheckReply). c .refusal) (unread-next k (lineOf run) (map lineOf runs) (own-accepted run (a .0)))
     ∙ runs-accepted (suc k) runs (a .1)
 
 runs-back : (runs : List Run) → map runIn (map lineOf runs) ≡ runs
@@ -84,7 +85,7 @@ pub line-read : (before : List (List ℕ)) (line : List ℕ) {twin : Bool} → r
     lineRefusal before line ≡ cond twin 11 0
 line-read before line e t = rw (e, t)
 
--- what an accepted line is not
+-- an accepted line is read, and is none of those before
 line-passes : (before : List (List ℕ)) (line : List ℕ) → lineRefusal before line ≡ 0 →
     (readOf line .refusal ≡ 0) × (isAmong line before ≡ false)
 line-passes before line z = go (readOf line .refusal) (isAmong line before) refl refl
@@ -119,7 +120,7 @@ none-refused k before (line ∷ lines) e =
     (λ z.
     let p = line-passes before line z in
     let r = rest (sym (ap (λ (c : CheckReply). c .refusal) (first-next k before line lines z)) ∙ e) in
-    (ap (λ (c : CheckReply). c .refusal) (refused-next k line lines (p .0)) ∙ r .0, (p .1, r .1)))
+    (ap (λ (c : CheckReply). c .refusal) (unread-next k line lines (p .0)) ∙ r .0, (p .1, r .1)))
     (λ d. absurd (d (sym (ap (λ (c : CheckReply). c .refusal) (first-here k before line lines d)) ∙ e)))
 
 all-pass : (k : ℕ) (before lines : List (List ℕ)) → firstUnread k lines .refusal ≡ 0 → Fresh before lines →
@@ -130,11 +131,10 @@ all-pass k before (line ∷ lines) e f =
     by-cases (ℕ-discrete (readOf line .refusal) 0)
     (λ z.
     ap (λ (c : CheckReply). c .refusal) (first-next k before line lines (line-read before line z (f .0)))
-    ∙ rest (sym (ap (λ (c : CheckReply). c .refusal) (refused-next k line lines z)) ∙ e) (f .1))
-    (λ d. absurd (d (sym (ap (λ (c : CheckReply). c .refusal) (refused-here k line lines d)) ∙ e)))
+    ∙ rest (sym (ap (λ (c : CheckReply). c .refusal) (unread-next k line lines z)) ∙ e) (f .1))
+    (λ d. absurd (d (sym (ap (λ (c : CheckReply). c .refusal) (unread-here k line lines d)) ∙ e)))
 
--- The check.
-
+-- The check, of too many bytes and of any others.
 pub long-check : (bytes : List ℕ) → 65536 < length bytes → checkOf bytes ≡ refusedAt 1 0
 unfolding checkOf
 long-check bytes l = rw (lt-ltb 65536 (length bytes) l, checkOf)
@@ -190,11 +190,11 @@ module _ {bytes : List ℕ} {at k end : ℕ} (w : Fold refusing tt bytes at k tt
   -- a line is read, or refused
   pub check-next : {run : Run} → ReadPromise (take (end - at) (drop at bytes)) (acceptedRun run) → Fold refusing tt bytes end (k + 1) tt
   check-next r =
-      fold-next w l e tt (λ lines. refused-next k _ lines (ap (λ (p : RunReply). p .refusal) (sym (r .equals))))
+      fold-next w l e tt (λ lines. unread-next k _ lines (ap (λ (p : RunReply). p .refusal) (sym (r .equals))))
 
   pub check-here : (x : Refusal) → ReadPromise (take (end - at) (drop at bytes)) (refusedRun (numberOf x)) →
       firstUnread 1 (linesOf bytes) ≡ refusedAt (numberOf x) k
   check-here x r =
       let n : readOf (take (end - at) (drop at bytes)) .refusal ≡ numberOf x =
       ap (λ (p : RunReply). p .refusal) (sym (r .equals)) in
-      fold-line w l e ∙ refused-here k _ _ (λ z. number-nonzero x (sym n ∙ z)) ∙ ap (λ (m : ℕ). refusedAt m k) n
+      fold-line w l e ∙ unread-here k _ _ (λ z. number-nonzero x (sym n ∙ z)) ∙ ap (λ (m : ℕ). refusedAt m k) n

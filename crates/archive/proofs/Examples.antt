@@ -113,18 +113,16 @@ unfolding summaryOf runsSummary totalOf
     checkOf firstRefused isAmong linesOf readOf isLine numbersFrom fieldsLine digitsOf lastDigits runRefusal refusalOf modulus
 summaries = refl
 
--- the whole archive is checked first: a lookup and a summary are refused as the check refuses
+-- the whole archive is checked first: an equal last line, a bad one, and a run of count 0 in line 1
 abbrev refused : List (List ℕ)
-refused = (two ++ ascii "4,5,3,1,0,16\n") ∷ damaged
+refused = (two ++ ascii "4,5,3,1,0,16\n") ∷ (two ++ ascii "4,5,3\n") ∷ ascii "4,5,3,1,0,0\n\n" ∷ []
 
-lookup-refusals :
-    map (λ bytes. lookupOf bytes 5) refused ≡ map (λ bytes. lookupRefused (checkOf bytes .refusal) (checkOf bytes .line)) refused
+lookup-refusals : map (λ bytes. lookupOf bytes 5) refused ≡ lookupRefused 11 3 ∷ lookupRefused 2 3 ∷ lookupRefused 5 1 ∷ []
 unfolding lookupOf
     checkOf firstRefused isAmong linesOf readOf isLine numbersFrom fieldsLine digitsOf lastDigits runRefusal refusalOf modulus
 lookup-refusals = refl
 
-summary-refusals :
-    map summaryOf refused ≡ map (λ bytes. summaryRefused (checkOf bytes .refusal) (checkOf bytes .line)) refused
+summary-refusals : map summaryOf refused ≡ summaryRefused 11 3 ∷ summaryRefused 2 3 ∷ summaryRefused 5 1 ∷ []
 unfolding summaryOf
     checkOf firstRefused isAmong linesOf readOf isLine numbersFrom fieldsLine digitsOf lastDigits runRefusal refusalOf modulus
 summary-refusals = refl

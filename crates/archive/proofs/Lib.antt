@@ -4,7 +4,7 @@ pub mod Folding
 mod Twins
 mod Chaining
 pub mod Checking
-mod Duplicates
+mod TwinRefusal
 mod LineByLine
 pub mod Finding
 pub mod Looking

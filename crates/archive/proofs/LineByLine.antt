@@ -5,58 +5,39 @@ use mathlib.Core.Bool.{Bool, true, false}
 use mathlib.Core.List.{List, [], _∷_}
 use Prim.Native.Nat.{ℕ, _+_, _-_, _≤_, _<_}
 use native.Mathlib.Omega.{arith}
-use lib.ListN.{length, take, drop, length-drop}
-use lib.Seq.{length-take-le}
+use lib.ListN.{length, take, drop}
 use Rattle.generator.specs.declared.Refusal.{Refusal}
 use Rattle.generator.specs.declared.Refusal.the-variants.{DuplicateLine}
 use Rattle.generator.specs.Refusals.{numberOf}
 use Rattle.generator.proofs.Replies.{number-suc}
-use Rattle.chains.specs.Chains.{Cleared}
 use Rattle.lines.specs.declared.Run.{Run}
 use Rattle.lines.specs.declared.RunAnswer.{RunAnswer}
 use Rattle.lines.specs.declared.RunAnswer.the-variants as answered
 use Rattle.lines.specs.declared.RunReply.{RunReply}
-use Rattle.lines.specs.Line.{lineOf}
 use Rattle.lines.specs.ReadLine.{ReadPromise, acceptedRun, refusedRun, replyOf, readOf}
 use Rattle.archive.specs.declared.ArchiveCheck.the-variants.{Accepted, Refused}
-use Rattle.archive.specs.Check.{CheckReply, refusedAt, checkReply, lineRefusal, firstRefused, CheckPromise}
+use Rattle.archive.specs.Check.{refusedAt, checkReply, lineRefusal, firstRefused, CheckPromise}
 use Rattle.archive.specs.Parts.{firstPart}
 use Rattle.archive.specs.Chained.{Chained, SeenLine}
-use Rattle.archive.proofs.Splitting.{part-within}
 use Rattle.archive.proofs.Folding.{Fold, fold-start, fold-line, fold-next, fold-end}
 use Rattle.archive.proofs.Checking.{line-unread, line-read, first-next, first-here, short-check}
-use Rattle.archive.proofs.Duplicates.{check-promise}
-use Rattle.archive.proofs.Chaining.{chained-start}
-
-abbrev checking : ℕ → List (List ℕ) → List (List ℕ) → CheckReply
-checking k before lines = firstRefused k before lines
+use Rattle.archive.proofs.TwinRefusal.{check-promise}
 
 -- the lines before, with which the walk goes on, are those in the chains
 pub record Passed (bytes : List ℕ) (at k : ℕ) (head next : List ℕ) : Type 0 where
   pub before : List (List ℕ)
-  pub walk : Fold checking [] bytes at k before
+  pub walk : Fold firstRefused [] bytes at k before
   pub chained : Chained bytes at head next before
 
-pub passed-start : {bytes head next : List ℕ} → Cleared bytes head next → Passed bytes 0 1 head next
-passed-start z = record { before = []; walk = fold-start; chained = chained-start z }
+pub passed-start : {bytes head next : List ℕ} → Chained bytes 0 head next [] → Passed bytes 0 1 head next
+passed-start c = record { before = []; walk = fold-start; chained = c }
 
--- The line that was read: its run, and its length.
+-- The line that was read, and its run.
 pub read-reply : {bytes : List ℕ} {answer : RunAnswer} {reply : RunReply} {run : Run} → answer ≡ answered.Accepted run →
     reply ≡ replyOf answer → ReadPromise bytes (replyOf answer) → ReadPromise bytes (acceptedRun (reply .run))
-read-reply {bytes} {run = run} a e r =
+read-reply {bytes} a e r =
     let s = e ∙ ap replyOf a in
     subst (ReadPromise bytes) (ap replyOf a ∙ ap acceptedRun (sym (ap (λ (q : RunReply). q .run) s))) r
-
-module _ (bytes : List ℕ) {at end : ℕ} {run : Run} (l : at < length bytes) (e : end ≡ at + length (firstPart (drop at bytes)))
-    (r : ReadPromise (take (end - at) (drop at bytes)) (acceptedRun run)) where
-  pub line-is : take (end - at) (drop at bytes) ≡ lineOf run
-  line-is = r .accepted refl .line
-
-  pub line-ends : at + length (lineOf run) ≡ end
-  line-ends =
-      let within = part-within bytes l e in
-      let size = length-take-le (end - at) (drop at bytes) (simp length-drop (omega (arith, within))) in
-      omega (arith, size, ap length line-is, within)
 
 module _ {bytes : List ℕ} {at k : ℕ} {head next : List ℕ} (p : Passed bytes at k head next) where
   module _ {end : ℕ} (l : at < length bytes) (e : end ≡ at + length (firstPart (drop at bytes))) where

@@ -17,7 +17,7 @@ use Rattle.archive.specs.Check.{CheckReply, checkOf}
 use Rattle.archive.specs.Parts.{firstPart, LineRun}
 use Rattle.archive.proofs.Splitting.{part-read, part-within, part-advances}
 use Rattle.archive.proofs.Folding.{Fold, fold-line, fold-next}
-use Rattle.archive.proofs.Checking.{firstUnread, refusing, refused-next, refused-here, check-lines}
+use Rattle.archive.proofs.Checking.{firstUnread, refusing, unread-next, unread-here, check-lines}
 
 -- The line that was read, as it stands in the bytes.
 pub run-read : {bytes : List ℕ} {at end : ℕ} (answer : RunAnswer) {reply : RunReply} → at < length bytes →
@@ -54,7 +54,7 @@ module _ {bytes : List ℕ} {at k : ℕ} (z : checkOf bytes .refusal ≡ 0) (w :
   pub run-accepted : readOf (firstPart (drop at bytes)) .refusal ≡ 0
   run-accepted =
       by-cases (ℕ-discrete (readOf line .refusal) 0) (λ y. y)
-      (λ d. absurd (d (sym (ap (λ (c : CheckReply). c .refusal) (first ∙ refused-here k line _ d)) ∙ check-lines bytes z .1)))
+      (λ d. absurd (d (sym (ap (λ (c : CheckReply). c .refusal) (first ∙ unread-here k line _ d)) ∙ check-lines bytes z .1)))
     where
       line : List ℕ
       line = firstPart (drop at bytes)
@@ -67,4 +67,4 @@ module _ {bytes : List ℕ} {at k : ℕ} (z : checkOf bytes .refusal ≡ 0) (w :
   pub run-next : {next : NextRun} → LineRun bytes at next → Fold refusing tt bytes (next .end) (k + 1) tt
   run-next r =
       fold-next w l (r .ends) tt
-      (λ lines. refused-next k _ lines (ap (λ (bs : List ℕ). readOf bs .refusal) (part-read bytes l (r .ends)) ∙ run-accepted))
+      (λ lines. unread-next k _ lines (ap (λ (bs : List ℕ). readOf bs .refusal) (part-read bytes l (r .ends)) ∙ run-accepted))

@@ -1,5 +1,5 @@
 -- Equal lines. Lines of which none is among those before it, one after the other, are those of which none, by its number,
--- equals an earlier one.
+-- equals an earlier one: by induction over the lines, since those before a line are those with lower numbers.
 use mathlib.Core.Path.{_≡_, refl, sym, ap, _∙_}
 use mathlib.Core.Bool.{Bool, true, false, _||_}
 use mathlib.Core.List.{List, [], _∷_}
@@ -7,7 +7,7 @@ use Prim.Native.Nat.{ℕ, zero, suc, _≤_, _<_}
 use native.Mathlib.Omega.{arith}
 use lib.ListN.{length}
 use Rattle.fields.specs.Line.{sameBytes}
-use Rattle.fields.proofs.Numbers.{same-test, test-same}
+use Rattle.fields.proofs.Numbers.{same-test, test-same, no-test}
 use Rattle.archive.specs.Archive.{numbered, Twin}
 use Rattle.archive.specs.Check.{isAmong}
 
@@ -19,11 +19,7 @@ pub same-lines : {line other : List ℕ} → line ≡ other → sameBytes line o
 same-lines {line} e = ap (sameBytes line) (sym e) ∙ test-same line
 
 pub other-lines : {line other : List ℕ} → (line ≡ other → ⊥) → sameBytes line other ≡ false
-other-lines {line} {other} d = go (sameBytes line other) refl
-  where
-    go : (b : Bool) → sameBytes line other ≡ b → sameBytes line other ≡ false
-    go true t = absurd (d (same-test line other t))
-    go false f = f
+other-lines {line} {other} d = no-test (sameBytes line other) (λ t. d (same-test line other t))
 
 -- a line is not among some lines if it is not the first and not among the others, and back
 among-other : (line other : List ℕ) (others : List (List ℕ)) → sameBytes other line ≡ false → isAmong line others ≡ false →

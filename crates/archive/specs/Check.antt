@@ -31,12 +31,12 @@ unfoldable pub isAmong : List ℕ → List (List ℕ) → Bool
 isAmong line [] = false
 isAmong line (other ∷ others) = sameBytes other line || isAmong line others
 
--- The number of a line's refusal, 0 for none, behind the lines before it: that of the call `read_line`, then 11 if the line
--- equals an earlier one.
+-- The number of a line's refusal, 0 for none, given the lines before it: that of the call `read_line`, then 11 if the line
+-- equals one of them.
 abbrev pub lineRefusal : List (List ℕ) → List ℕ → ℕ
 lineRefusal before line = orElse (readOf line .refusal) (cond (isAmong line before) 11 0)
 
--- The first of the lines that is refused, numbered from k on, behind the lines before them.
+-- The first of the lines that is refused, numbered from k on, given the lines before them.
 unfoldable pub firstRefused : ℕ → List (List ℕ) → List (List ℕ) → CheckReply
 firstRefused k before [] = refusedAt 0 0
 firstRefused k before (line ∷ lines) =
@@ -51,7 +51,7 @@ pub record Accepts (bytes : List ℕ) (refusal : ℕ) : Type 0 where
   pub archive : refusal ≡ 0 → IsArchive bytes (runsIn bytes)
   pub others : (runs : List Run) → IsArchive bytes runs → (refusal ≡ 0) × (runsIn bytes ≡ runs)
 
--- The promise of the check. 11 comes with the number of a line that equals an earlier one.
+-- The promise of the check. 11 comes with the number of a line that equals an earlier one; of several, by `equals`, the first.
 pub record CheckPromise (bytes : List ℕ) (reply : CheckReply) : Type 0 where
   pub equals : reply ≡ checkOf bytes
   pub meaning : Accepts bytes (reply .refusal)

@@ -1,10 +1,11 @@
 // The check of an archive that is not too long: each line is read, and compared with those before it of the same hash.
 ghost use mathlib.Core.Path.{_≡_};
-ghost use Prim.Native.Nat.{_+_, _-_, _≤_, _<_};
+ghost use mathlib.Core.List.{[]};
+ghost use Prim.Native.Nat.{_-_, _≤_};
 ghost use lib.ListN.{length, take, drop};
-ghost use Rattle.chains.specs.Chains.{Tables, Cleared};
+ghost use Rattle.chains.specs.Chains.{Tables};
 ghost use Rattle.lines.specs.Line.{lineOf};
-ghost use Rattle.archive.specs.Chained.{SeenLine};
+ghost use Rattle.archive.specs.Chained.{Chained, SeenLine};
 ghost use Rattle.archive.specs.Check.{CheckPromise, checkReply};
 use crate::ArchiveCheck;
 use crate::parts::part_end;
@@ -26,7 +27,7 @@ pub fn line_seen(
     next: &mut [u16],
 ) -> bool
     requires { ⌜ length (now archive) ≤ 65536 ⌝ }
-    requires { ⌜ at + length (lineOf run) ≡ end ⌝ }
+    requires { ⌜ at ≤ end ⌝ }
     requires { ⌜ end ≤ length (now archive) ⌝ }
     requires { ⌜ take (end - at) (drop at (now archive)) ≡ lineOf run ⌝ }
     requires { ⌜ Tables (now archive) at (now head) (now next) ⌝ }
@@ -37,10 +38,10 @@ pub fn line_seen(
     seen_before(archive, at, end, slot, head, next)
 }
 
-// The lines one after the other, with empty chains.
+// The lines one after the other, from empty chains on. Where one is accepted, the plain reply has its run.
 pub fn lines_checked(archive: &[u8], head: &mut [u16], next: &mut [u16]) -> ArchiveCheck
     requires { ⌜ length (now archive) ≤ 65536 ⌝ }
-    requires { ⌜ Cleared (now archive) (now head) (now next) ⌝ }
+    requires { ⌜ Chained (now archive) 0 (now head) (now next) [] ⌝ }
     ensures { λ r. ⌜ CheckPromise (now (archive .entry)) (checkReply r) ⌝ }
 {
     let mut at = 0;
@@ -61,7 +62,7 @@ pub fn lines_checked(archive: &[u8], head: &mut [u16], next: &mut [u16]) -> Arch
     ArchiveCheck::Accepted
 }
 
-// Few slots for a short archive: to clear more would take longer than its check.
+// Few slots for a short archive: to clear more would take longer than its check. There is an entry for every 12 bytes.
 pub fn short_checked(archive: &[u8]) -> ArchiveCheck
     requires { ⌜ length (now archive) ≤ 1024 ⌝ }
     ensures { λ r. ⌜ CheckPromise (now (archive .entry)) (checkReply r) ⌝ }
@@ -71,7 +72,7 @@ pub fn short_checked(archive: &[u8]) -> ArchiveCheck
     lines_checked(archive, &mut head, &mut next)
 }
 
-// As many slots as a full archive has lines of 16 bytes.
+// As many slots as a full archive has lines of 16 bytes, and an entry for every 12 bytes.
 pub fn long_checked(archive: &[u8]) -> ArchiveCheck
     requires { ⌜ length (now archive) ≤ 65536 ⌝ }
     ensures { λ r. ⌜ CheckPromise (now (archive .entry)) (checkReply r) ⌝ }

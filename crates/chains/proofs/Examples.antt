@@ -1,6 +1,6 @@
 -- The slots of two runs of document 01, and a chain of two parts, computed.
 use mathlib.Core.Path.{_≡_, refl}
-use mathlib.Core.Bool.{Bool, true, false}
+use mathlib.Core.Bool.{true, false}
 use mathlib.Core.List.{List, [], _∷_, _++_, map}
 use Prim.Native.Nat.{ℕ}
 use Rattle.fields.specs.Ascii.{ascii}

@@ -1,4 +1,4 @@
--- The hash over some numbers, from number to number; it stays below 2^64, so a slot is one of as many as there are.
+-- The hash over some numbers, from number to number. Its upper half is below 2^32, so a slot is one of as many as there are.
 use mathlib.Core.Path.{_≡_, sym, ap, _∙_}
 use mathlib.Core.List.{List, [], _∷_}
 use Prim.Native.Nat.{ℕ, suc, _+_, _*_, _/_, _%_, _^_, _≤_, _<_}
@@ -7,16 +7,16 @@ use native.Mathlib.Omega.{arith}
 use native.Mathlib.Numerals.{add-one}
 use lib.ListN.{length, getD, drop, drop-of-length-le}
 use lib.Seq.{drop-cons}
-use Rattle.chains.specs.Hash.{hashFrom, slotOf}
+use Rattle.chains.specs.Hash.{factor, hashFrom, slotOf}
 
 -- one number more
 pub hash-next : (vs : List ℕ) (h : ℕ) {k sum product : ℕ} → hashFrom 0 vs ≡ hashFrom h (drop k vs) → k < length vs →
-    sum ≡ (h + getD vs k 0) % 2 ^ 64 → product ≡ sum * 11400714819323198485 % 2 ^ 64 →
+    sum ≡ (h + getD vs k 0) % 2 ^ 64 → product ≡ sum * factor % 2 ^ 64 →
     hashFrom 0 vs ≡ hashFrom product (drop (k + 1) vs)
 unfolding hashFrom
 hash-next vs h {k} {sum} {product} w l s p =
     w ∙ ap (hashFrom h) (drop-cons vs k 0 l)
-    ∙ ap (λ (n : ℕ). hashFrom n (drop (suc k) vs)) (sym (p ∙ ap (λ (n : ℕ). n * 11400714819323198485 % 2 ^ 64) s))
+    ∙ ap (λ (n : ℕ). hashFrom n (drop (suc k) vs)) (sym (p ∙ ap (λ (n : ℕ). n * factor % 2 ^ 64) s))
     ∙ ap (λ (j : ℕ). hashFrom product (drop j vs)) (sym (add-one k))
 
 pub hash-end : (h : ℕ) (vs : List ℕ) {k : ℕ} → length vs ≤ k → hashFrom h (drop k vs) ≡ h
@@ -26,7 +26,7 @@ hash-end h vs l = rw (drop-of-length-le vs l)
 hash-small : (h : ℕ) (vs : List ℕ) → h < 2 ^ 64 → hashFrom h vs < 2 ^ 64
 unfolding hashFrom
 hash-small h [] l = l
-hash-small h (v ∷ vs) l = hash-small ((h + v) % 2 ^ 64 * 11400714819323198485 % 2 ^ 64) vs (omega arith)
+hash-small h (v ∷ vs) l = hash-small ((h + v) % 2 ^ 64 * factor % 2 ^ 64) vs (omega arith)
 
 pub slot-within : (vs : List ℕ) {slots : ℕ} → 0 < slots → slotOf vs slots < slots
 unfolding slotOf

@@ -10,7 +10,7 @@ use native.Mathlib.Numerals.{add-one}
 use native.Mathlib.Omega.{arith}
 use lib.ListN.{length, getD, set, replicate, length-set, length-replicate, getD-replicate, List·getD-eq-default}
 use lib.Seq.{getD-set-same, getD-set-other}
-use Rattle.chains.specs.Chains.{stands, standsWithin, standsAmong, Falling, Tables, Cleared, Seen}
+use Rattle.chains.specs.Chains.{stands, standsWithin, standsAmong, Falling, Tables, Seen}
 
 -- One chain.
 module _ (bytes : List ℕ) {next : List ℕ} (part : List ℕ) (f : Falling next) where
@@ -111,32 +111,21 @@ module _ {bytes : List ℕ} {at end slot : ℕ} {head next head' next' : List �
         (ap (λ (l : List ℕ). getD l other 0) (told .newest) ∙ getD-set-other head slot other (at + 1) 0 d)
         ∙ kept (getD head other 0) (t .earlier other)
 
--- Empty chains.
-module _ {bytes head next : List ℕ} (z : Cleared bytes head next) where
-  pub cleared-tables : Tables bytes 0 head next
-  cleared-tables =
-      record {
-        slots = z .slots;
-        room = z .room;
-        earlier = λ slot. omega (arith, z .no-head slot);
-        falling = record { law = λ i. omega (arith, z .no-next i) };
-      }
-
-  pub cleared-none : (part : List ℕ) (slot : ℕ) → standsAmong bytes next part (getD head slot 0) ≡ false
-  cleared-none part slot = ap (standsAmong bytes next part) (z .no-head slot) ∙ chain-none bytes next part
-
+-- Empty chains: so many zeros.
 zeros : (n i : ℕ) → _≡_ {A = ℕ} (getD (replicate n 0) i 0) 0
 zeros n i =
     by-cases (decLt i n) (λ l. getD-replicate n i 0 0 l)
     (λ d. List·getD-eq-default {A = ℕ} (replicate n 0) 0 (simp length-replicate (omega arith)))
 
--- so many zeros
-pub zeros-cleared : {bytes : List ℕ} (slots entries : ℕ) → (0 < slots) × (slots ≤ 65536) → length bytes ≤ 12 * entries →
-    Cleared bytes (replicate slots 0) (replicate entries 0)
-zeros-cleared slots entries s r =
+pub zeros-tables : {bytes : List ℕ} (slots entries : ℕ) → (0 < slots) × (slots ≤ 65536) → length bytes ≤ 12 * entries →
+    Tables bytes 0 (replicate slots 0) (replicate entries 0)
+zeros-tables slots entries s r =
     record {
       slots = simp length-replicate s;
       room = simp length-replicate r;
-      no-head = zeros slots;
-      no-next = zeros entries;
+      earlier = λ slot. omega (arith, zeros slots slot);
+      falling = record { law = λ i. omega (arith, zeros entries i) };
     }
+
+pub zeros-none : (bytes next part : List ℕ) (slots slot : ℕ) → standsAmong bytes next part (getD (replicate slots 0) slot 0) ≡ false
+zeros-none bytes next part slots slot = ap (standsAmong bytes next part) (zeros slots slot) ∙ chain-none bytes next part

@@ -22,23 +22,16 @@ standsWithin bytes next part (suc n) (suc s) =
 abbrev pub standsAmong : List ℕ → List ℕ → List ℕ → ℕ → Bool
 standsAmong bytes next part m = standsWithin bytes next part m m
 
--- each mark behind another is below it
+-- the mark at entry i is at most 12 * i, so it is below every mark whose entry that is
 pub record Falling (next : List ℕ) : Type 0 where
   pub law : (i : ℕ) → getD next i 0 ≤ 12 * i
 
--- The chains of parts that end at `at` or before, with room for every part of the bytes.
+-- The tables before the part at `at`: every mark is of an earlier entry, and there is an entry for every 12 bytes.
 pub record Tables (bytes : List ℕ) (at : ℕ) (head next : List ℕ) : Type 0 where
   pub slots : (0 < length head) × (length head ≤ 65536)
   pub room : length bytes ≤ 12 * length next
   pub earlier : (slot : ℕ) → getD head slot 0 ≤ 12 * (at / 12)
   pub falling : Falling next
-
--- the same without any part
-pub record Cleared (bytes head next : List ℕ) : Type 0 where
-  pub slots : (0 < length head) × (length head ≤ 65536)
-  pub room : length bytes ≤ 12 * length next
-  pub no-head : (slot : ℕ) → getD head slot 0 ≡ 0
-  pub no-next : (i : ℕ) → getD next i 0 ≡ 0
 
 -- What is told of the part from `at` to `end`, which is then the newest of its slot.
 pub record Seen (bytes : List ℕ) (at end slot : ℕ) (head next head' next' : List ℕ) (seen : Bool) : Type 0 where

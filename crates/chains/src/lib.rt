@@ -1,3 +1,3 @@
-// Parts of some bytes, in chains by the hash of their numbers: whether a part has been seen before.
+// Parts of some bytes in chains, one for each slot, and the slot of some numbers, by a hash.
 pub mod chains;
 pub mod hash;

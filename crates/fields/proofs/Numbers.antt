@@ -4,15 +4,15 @@
 use mathlib.Core.Path.{_≡_, refl, sym, ap, _∙_, subst}
 use mathlib.Core.Bool.{Bool, true, false, _&&_}
 use mathlib.Core.List.{List, [], _∷_, _++_}
-use Prim.Native.Nat.{ℕ, zero, suc, _^_, _≤_, _<_}
+use Prim.Native.Nat.{ℕ, zero, suc, _*_, _^_, _≤_, _<_}
 use native.Mathlib.Omega.{arith}
 use lib.Dec.{eqb, ltb}
-use lib.ListN.{length}
+use lib.ListN.{length, length-append}
 use borrow.Author.Tests.{eq-eqb, eqb-true, lt-ltb, ltb-true}
 use Rattle.fields.specs.Digits.{digitsOf}
 use Rattle.fields.specs.Field.{NoField}
 use Rattle.fields.specs.Line.{markBefore, fieldsLine, AllBelow, numbersFrom, allBelow, sameBytes, isLine}
-use Rattle.fields.proofs.Digits.{field-unique, numbers-field}
+use Rattle.fields.proofs.Digits.{digits-nonempty, field-unique, numbers-field}
 
 mark-small : (n : ℕ) → markBefore n < 48
 mark-small zero = omega arith
@@ -61,6 +61,12 @@ same-test (b ∷ bs) (c ∷ cs) e =
 pub test-same : (bs : List ℕ) → sameBytes bs bs ≡ true
 test-same [] = refl
 test-same (b ∷ bs) = rw (eq-eqb b b refl) (test-same bs)
+
+-- A line has two bytes or more for each of its numbers.
+pub fields-long : (vs : List ℕ) → 2 * length vs ≤ length (fieldsLine vs)
+unfolding fieldsLine
+fields-long [] = omega arith
+fields-long (v ∷ vs) = simp length-append (omega (arith, digits-nonempty v, fields-long vs))
 
 -- What the test says.
 pub record Line (n : ℕ) (bytes : List ℕ) : Type 0 where

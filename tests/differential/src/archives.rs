@@ -218,7 +218,7 @@ fn twins_in_full_archives() -> Vec<Vec<u8>> {
     archives_of(&all)
 }
 
-/// The lines of a full archive that the chains take longest for: all in one slot, and alike up to the count.
+/// The lines of a full archive, all in one slot and alike up to the count.
 pub fn full_slot() -> Lines {
     let run = Run::from([4, 5, 3, 1, 0, 10_000_000]);
     fitting(runs_in_one_slot(run, slots_for(ARCHIVE_LIMIT)), ARCHIVE_LIMIT)
@@ -245,11 +245,16 @@ mod tests {
     /// Each kind of archive is what it is meant for.
     #[test]
     fn archives_are_refused_and_accepted() {
-        for archives in [twins_at_each_place(), colliding_lines(), about_1024_bytes(), twins_in_a_full_slot()]
-        {
-            assert_eq!(refusals(&archives), HashSet::from([0, DUPLICATE_LINE]));
+        let with_twins =
+            [twins_at_each_place, twins_about_sums, colliding_lines, about_1024_bytes, twins_in_a_full_slot];
+        for archives in with_twins {
+            assert_eq!(refusals(&archives()), HashSet::from([0, DUPLICATE_LINE]));
         }
-        assert_eq!(refusals(&twins_about_sums()), HashSet::from([0, DUPLICATE_LINE]));
+        for archives in [twins_in_each_order, near_twins] {
+            assert!(refusals(&archives()).is_superset(&HashSet::from([0, MALFORMED_LINE, DUPLICATE_LINE])));
+        }
+        assert_eq!(refusals(&bad_lines_about_twins()), HashSet::from([2, 3, 4, 5, DUPLICATE_LINE]));
+        assert_eq!(refusals(&twins_in_full_archives()), HashSet::from([0, 1, 2, DUPLICATE_LINE]));
         let of_sums: HashSet<u64> =
             twins_about_sums().iter().map(|archive| model::summary(archive).refusal).collect();
         assert_eq!(of_sums, HashSet::from([0, TOTAL_OVERFLOW, DUPLICATE_LINE]));

@@ -498,7 +498,7 @@ impl<const SLOTS: usize, const LINES: usize> Chains<SLOTS, LINES> {
         self.head[slot] = (line.start + 1) as u16;
     }
 
-    /// The refusal and the line that it concerns, if there is one. No archive has more LINES.
+    /// The refusal and the line that it concerns, if there is one. An archive has at most LINES lines.
     fn check(mut self, archive: &[u8]) -> Result<(), (u64, u64)> {
         let twin = each_run(archive, |run, line| {
             let slot = slot_of(&run, SLOTS);
@@ -619,6 +619,15 @@ mod tests {
                 assert_eq!(ours, theirs, "line {line_number} of {}", archive.bytes.escape_ascii());
             }
         }
+    }
+
+    /// The library's, as `chains/proofs/Examples.antt` has them: otherwise no lines would collide in its chains.
+    #[test]
+    fn slots_are_the_librarys() {
+        let runs = [[4, 5, 3, 1, 0, 16], [10, 371, 995, 73, 100, 8]].map(Run::from);
+        let slots: Vec<usize> =
+            runs.iter().flat_map(|run| [64, 4096].map(|slots| slot_of(run, slots))).collect();
+        assert_eq!(slots, [57, 3680, 59, 3816]);
     }
 
     #[test]

@@ -360,7 +360,7 @@ fn sum_to_about_2_64(r: &mut Random, runs: &mut [Run]) {
     }
 }
 
-/// Of up to eight different runs: with counts as they come, or with a sum of about 2^64.
+/// Of up to eight runs: different ones with counts as they come, or with others that sum to about 2^64.
 pub fn archive_to_sum(r: &mut Random, make_run: MakeRun) -> Vec<u8> {
     let make_run = r.pick(&[make_run, small_run]);
     let count = r.below(9);
@@ -388,14 +388,17 @@ pub fn archive_of_length(r: &mut Random, make_run: MakeRun, length: usize, numbe
     let mut bytes = Vec::with_capacity(length);
     let (mut runs, mut seen) = (Vec::new(), HashSet::new());
     while bytes.len() < length {
-        let run = match length - bytes.len() {
-            left @ 0..=85 => run_of_length(left),
-            left @ 86..=191 => run_of_length((left / 2 - 1).min(85)), // the others will be of other lengths
+        let left = length - bytes.len();
+        let run = match left {
+            0..=85 => run_of_length(left),
+            86..=191 => run_of_length((left / 2 - 1).min(85)),
             _ => make_run(r),
         };
         if seen.insert(run) {
             bytes.extend(line_of(&run));
             runs.push(run);
+        } else {
+            assert!(left > 191, "the last lines are of different lengths");
         }
     }
     Archive { bytes, numbers: numbers_for(r, &runs, numbers) }

@@ -1,6 +1,6 @@
 -- `archive::checked` meets its contract: an archive that is too long is refused, and any other by its lines.
 use borrow.Author.Needs.{needs}
-use Rattle.archive.proofs.Duplicates.{check-long}
+use Rattle.archive.proofs.TwinRefusal.{check-long}
 use Rattle.archive.proofs.checked.Statement.{statement}
 use Rattle.archive.proofs.checked.Tie as tie
 

@@ -460,9 +460,9 @@ mod prime_modulus {
     }
 }
 
-/// The rows of the check: few lines, archives of growing length, a lookup in short lines, and the archives that
-/// take longest, all of whose lines are in one slot of the chains. They have random numbers of their own as well. No archive has equal
-/// lines, so that a library before version 0.11.0, which takes them, gives the same.
+/// The rows of the check: few lines, archives of growing length, a lookup in short lines, and archives all of whose
+/// lines are in one slot of the chains. No archive has equal lines, so that a library before version 0.11.0, which
+/// takes them, gives the same. They have random numbers of their own as well.
 fn checks(out: &Output) {
     let r = &mut Random::new(SEED + 5);
     out.heading("check", "Rust");

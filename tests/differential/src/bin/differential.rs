@@ -666,8 +666,8 @@ fn chosen_summaries() -> Tally {
 
 // Equal lines.
 
-/// Lookups of numbers that line 1 mostly shows and of one that no line does, lines at both ends and in the
-/// middle, and the summary.
+/// Lookups of 1, which line 1 mostly shows, of 5, and of a number that hardly any line shows; lines at both ends
+/// and in the middle; the summary.
 fn calls_on(tally: &mut Tally, archive: &[u8]) {
     for number in [1, 5, u64::MAX] {
         tally.lookup(archive, number);

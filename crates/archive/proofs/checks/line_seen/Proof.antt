@@ -10,7 +10,7 @@ use lib.ListN.{length}
 use Rattle.chains.specs.Hash.{slotOf}
 use Rattle.chains.proofs.Hashing.{slot-within}
 use Rattle.lines.specs.Line.{numbersOf}
-use Rattle.archive.proofs.Chaining.{line-long, chained-next}
+use Rattle.archive.proofs.Chaining.{line-long, line-size, chained-next}
 use Rattle.archive.proofs.checks.line_seen.Statement.{statement}
 use Rattle.archive.proofs.checks.line_seen.Tie as tie
 
@@ -41,8 +41,8 @@ seen-before-requires c κs =
     let slot = c .before .before in
     let start = slot .before .before .before .before .before .before in
     let pre = start .pre in
-    let tables = pre .1 .1 .1 .1 in
-    (omega (arith, pre .1 .0, line-long (start .args .run)), (pre .1 .1 .0, (pre .0, (inside slot, tables))))
+    let size = line-size _ (start .args .run) (pre .1 .0) (pre .1 .1 .0) (pre .1 .1 .1 .0) in
+    (omega (arith, size, line-long (start .args .run)), (pre .1 .1 .0, (pre .0, (inside slot, pre .1 .1 .1 .1))))
 
 same-length : tie.Need-same-length
 same-length c = search needs

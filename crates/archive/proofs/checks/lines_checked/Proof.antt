@@ -10,7 +10,7 @@ use Rattle.lines.specs.ReadLine.{ReadPromise, acceptedRun}
 use Rattle.lines.specs.declared.RunAnswer.the-variants.{Refused}
 use Rattle.lines.proofs.Reading.{read-as}
 use Rattle.archive.proofs.Splitting.{part-within, part-advances}
-use Rattle.archive.proofs.LineByLine.{Passed, passed-start, read-reply, line-is, line-ends, passed-refused, passed-twin, passed-next, passed-end}
+use Rattle.archive.proofs.LineByLine.{Passed, passed-start, read-reply, passed-refused, passed-twin, passed-next, passed-end}
 use Rattle.archive.proofs.checks.lines_checked.Statement.{statement}
 use Rattle.archive.proofs.checks.lines_checked.Tie as tie
 
@@ -81,16 +81,11 @@ promise c = read-reply (c .before .before .enum-told .given .1) (c .before .of-r
 line-seen-requires : tie.Need-line-seen-requires Inv-loop μ-loop
 line-seen-requires c κs =
     let run = c .before .before in
-    let l = run .before .before .before .before .before .before .before in
-    let end = run .before .before .before .before .before .before .part-end .ensures in (
+    let read = run .before .before .before .before .before .before in
+    let l = read .before in
+    let inv = l .before .loop .inv in (
       l .before .before .before .before .before .pre .0,
-      (
-        line-ends _ (l .loop-test .taken) end (promise run),
-        (
-          part (run .before .before .before .before .before .before) .1,
-          (line-is _ (l .loop-test .taken) end (promise run), l .before .loop .inv .0 .chained .tables),
-        ),
-      ),
+      (part read .0, (part read .1, (promise run .accepted refl .line, inv .0 .chained .tables))),
     )
 
 -- the tables are as long as they were

@@ -1,7 +1,7 @@
 -- `archive::checks::short_checked` meets its contract: 64 slots and 86 entries are room enough, and all are 0.
 use borrow.Author.Needs.{needs}
 use native.Mathlib.Omega.{arith}
-use Rattle.chains.proofs.Linking.{zeros-cleared}
+use Rattle.archive.proofs.Chaining.{zeros-chained}
 use Rattle.archive.proofs.checks.short_checked.Statement.{statement}
 use Rattle.archive.proofs.checks.short_checked.Tie as tie
 
@@ -14,7 +14,7 @@ slice-aggregate-lines-checked-2 c = search needs
 lines-checked-requires : tie.Need-lines-checked-requires
 lines-checked-requires c κs =
     let l = c .before .before .before .pre in
-    (omega (arith, l), zeros-cleared 64 86 (omega arith) (omega (arith, l)))
+    (omega (arith, l), zeros-chained 64 86 (omega arith) (omega (arith, l)))
 
 returns : tie.Need-returns
 returns c = search needs

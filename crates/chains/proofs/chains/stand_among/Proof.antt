@@ -6,7 +6,6 @@ use native.Mathlib.Omega.{arith}
 use Rattle.chains.proofs.Walking.{Walk, walk-here, walk-falls, walk-next, walk-end}
 use Rattle.chains.proofs.chains.stand_among.Statement.{statement}
 use Rattle.chains.proofs.chains.stand_among.Tie as tie
-use Rattle.chains.proofs.chains.stand_among.Lts as lts
 
 abbrev Inv-loop : tie.InvT-loop
 Inv-loop bytes at n first next mark₀ mark =

@@ -8,7 +8,6 @@ use Rattle.chains.specs.Hash.{hashFrom}
 use Rattle.chains.proofs.Hashing.{hash-next, hash-end, slot-fits, slot-is}
 use Rattle.chains.proofs.hash.slot.Statement.{statement}
 use Rattle.chains.proofs.hash.slot.Tie as tie
-use Rattle.chains.proofs.hash.slot.Lts as lts
 
 abbrev Inv-loop : tie.InvT-loop
 Inv-loop numbers slots h₀ k₀ h k = (h < 2 ^ 64) × (hashFrom 0 numbers ≡ hashFrom h (drop k numbers))

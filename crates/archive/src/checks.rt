@@ -1,4 +1,4 @@
-// The check of an archive that is not too long: each line is read, and compared with those before it of the same hash.
+// The check of an archive that is not too long: each line is read, and compared with those before it in its slot.
 ghost use mathlib.Core.Path.{_≡_};
 ghost use mathlib.Core.List.{[]};
 ghost use Prim.Native.Nat.{_-_, _≤_};

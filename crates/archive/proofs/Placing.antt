@@ -7,9 +7,9 @@ use native.Mathlib.Omega.{arith}
 use lib.ListN.{length, take, drop, length-append, length-drop}
 use lib.Seq.{take-append-seam, drop-at, length-take-le}
 use borrow.Author.Tests.{eq-eqb, ne-eqb}
-use Rattle.generator.specs.declared.Refusal.{Refusal}
-use Rattle.generator.specs.Refusals.{numberOf}
-use Rattle.generator.proofs.Replies.{number-suc}
+use Rattle.refusals.specs.declared.Refusal.{Refusal}
+use Rattle.refusals.specs.Refusals.{numberOf}
+use Rattle.refusals.proofs.Replies.{number-suc}
 use Rattle.lines.specs.declared.Run.{Run}
 use Rattle.lines.specs.Line.{lineOf}
 use Rattle.archive.specs.declared.Part.{Part}

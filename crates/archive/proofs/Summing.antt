@@ -8,9 +8,9 @@ use native.Mathlib.Decide.{decLt}
 use native.Mathlib.Omega.{arith}
 use lib.ListN.{length, take, drop}
 use borrow.Author.Tests.{lt-ltb, le-ltb}
-use Rattle.generator.specs.declared.Refusal.{Refusal}
-use Rattle.generator.specs.Refusals.{numberOf}
-use Rattle.generator.proofs.Replies.{number-suc}
+use Rattle.refusals.specs.declared.Refusal.{Refusal}
+use Rattle.refusals.specs.Refusals.{numberOf}
+use Rattle.refusals.proofs.Replies.{number-suc}
 use Rattle.lines.specs.declared.Run.{Run}
 use Rattle.lines.specs.ReadLine.{runIn}
 use Rattle.archive.specs.declared.SummaryReply.{SummaryReply}

@@ -9,7 +9,8 @@ use native.Mathlib.Decide.{ℕ-discrete, decLt}
 use native.Mathlib.Omega.{arith}
 use lib.ListN.{length}
 use Rattle.generator.specs.declared.Generator.{Generator}
-use Rattle.generator.specs.Refusals.{orElse, widthRefused, operandRefused, primeRefused, refusalOf}
+use Rattle.refusals.specs.Refusals.{orElse}
+use Rattle.generator.specs.Check.{widthRefused, operandRefused, primeRefused, refusalOf}
 use Rattle.fields.specs.Line.{sameBytes, isLine}
 use Rattle.fields.proofs.Numbers.{same-test}
 use Rattle.lines.specs.declared.Run.{Run}

@@ -5,7 +5,7 @@ use mathlib.Core.List.{List, [], _∷_}
 use Prim.Native.Nat.{ℕ, zero, suc}
 use lib.Dec.{ltb}
 use lib.ListN.{length}
-use Rattle.generator.specs.Refusals.{numberOf, orElse}
+use Rattle.refusals.specs.Refusals.{numberOf, orElse}
 use Rattle.fields.specs.Line.{sameBytes}
 use Rattle.lines.specs.declared.Run.{Run}
 use Rattle.lines.specs.ReadLine.{readOf}

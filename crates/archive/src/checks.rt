@@ -11,11 +11,11 @@ use crate::ArchiveCheck;
 use crate::parts::part_end;
 use chains::chains::seen_before;
 use chains::hash::slot;
-use generator::Refusal;
 use lines::Run;
 use lines::RunAnswer;
 use lines::numbers::numbers_of;
 use lines::plain::of_run;
+use refusals::Refusal;
 
 // Whether the line of that run, from `at` to `end`, equals one in the chains. It is added to them.
 pub fn line_seen(

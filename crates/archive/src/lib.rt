@@ -3,7 +3,7 @@ ghost use Rattle.archive.specs.Check.{CheckPromise, checkReply};
 ghost use Rattle.archive.specs.Line.{LinePromise, PartPromise};
 ghost use Rattle.archive.specs.Lookup.{LookupPromise, replyOf};
 ghost use Rattle.archive.specs.Summary.{SummaryPromise, summaryReply};
-use generator::Refusal;
+use refusals::Refusal;
 
 pub mod checks;
 pub mod parts;

@@ -6,7 +6,7 @@ use crate::LookupAnswer;
 use crate::LookupReply;
 use crate::SummaryAnswer;
 use crate::SummaryReply;
-use generator::refusal_number::number;
+use refusals::number;
 
 pub fn of_lookup(answer: LookupAnswer) -> LookupReply
     ensures { λ r. ⌜ r ≡ replyOf answer ⌝ }

@@ -5,7 +5,7 @@ ghost use Rattle.archive.specs.Check.{checkOf};
 ghost use Rattle.archive.specs.Summary.{runsSummary, summaryReply};
 use crate::SummaryAnswer;
 use crate::parts::next_run;
-use generator::Refusal;
+use refusals::Refusal;
 
 // The lines counted and their counts added up, as long as the sum fits a word: a sum that does not, never fits again.
 pub fn summed(archive: &[u8]) -> SummaryAnswer

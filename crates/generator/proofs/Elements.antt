@@ -9,7 +9,7 @@ use Rattle.powers.specs.Prime.{along}
 use Rattle.powers.proofs.Sequences.{Multiplies, multiplied, element-low, element-high}
 use Rattle.generator.specs.declared.Generator.{Generator}
 use Rattle.generator.specs.Recurrence.{modulus, step, element}
-use Rattle.generator.specs.Refusals.{refusalOf}
+use Rattle.generator.specs.Check.{refusalOf}
 use Rattle.generator.specs.Kinds.{IsElement, seeded, Restarted}
 use Rattle.generator.specs.Prime.{Prime}
 use Rattle.generator.proofs.Refusals.{Accepted, accepted, accepted-none, modulus-positive, prime}

@@ -3,11 +3,8 @@ use mathlib.Core.Path.{_≡_, refl}
 use mathlib.Core.List.{[], _∷_, map}
 use Prim.Native.Nat.{ℕ}
 use Rattle.generator.specs.declared.Generator.{Generator}
-use Rattle.sequences.specs.Least.{least}
 use Rattle.generator.specs.Recurrence.{modulus, step, element}
-use Rattle.generator.specs.Refusals.{refusalOf}
-use Rattle.generator.specs.Predecessor.{predecessorOf, predecessorRefusal}
-use Rattle.generator.specs.Customary.{oddPower, customaryOf, customaryRefusal}
+use Rattle.generator.specs.Check.{refusalOf}
 
 abbrev gen : ℕ → ℕ → ℕ → ℕ → Generator
 gen n a c x = record { width = n; multiplier = a; increment = c; seed = x }
@@ -47,27 +44,3 @@ prime-refusals :
     ≡ 0 ∷ 0 ∷ 4 ∷ 4 ∷ 4 ∷ 4 ∷ 4 ∷ []
 unfolding refusalOf modulus
 prime-refusals = refl
-
-prime-predecessors : map (predecessorRefusal (gen 0 16807 0 1)) (0 ∷ 1 ∷ 2147483646 ∷ 2147483647 ∷ []) ≡ 6 ∷ 0 ∷ 0 ∷ 6 ∷ []
-unfolding predecessorRefusal refusalOf modulus
-prime-predecessors = refl
-
-predecessors : map (predecessorOf (gen 4 5 3 1)) (8 ∷ 11 ∷ 1 ∷ []) ≡ 1 ∷ 8 ∷ 6 ∷ []
-unfolding predecessorOf least step modulus
-predecessors = refl
-
--- in the order 3, 4, 6, 7
-predecessor-refusals :
-    predecessorRefusal (gen 65 99 0 0) 99 ∷ predecessorRefusal (gen 4 16 0 0) 99 ∷ predecessorRefusal (gen 4 2 0 0) 16
-    ∷ predecessorRefusal (gen 4 2 0 0) 15 ∷ predecessorRefusal (gen 4 3 0 0) 15 ∷ []
-    ≡ 3 ∷ 4 ∷ 6 ∷ 7 ∷ 0 ∷ []
-unfolding predecessorRefusal refusalOf modulus
-predecessor-refusals = refl
-
-customary : map customaryOf (3 ∷ 4 ∷ 7 ∷ 36 ∷ 64 ∷ []) ≡ 5 ∷ 5 ∷ 125 ∷ 30517578125 ∷ 7450580596923828125 ∷ []
-unfolding customaryOf oddPower least
-customary = refl
-
-customary-refusals : map customaryRefusal (0 ∷ 2 ∷ 3 ∷ 64 ∷ 65 ∷ 18446744073709551615 ∷ []) ≡ 3 ∷ 3 ∷ 0 ∷ 0 ∷ 3 ∷ 3 ∷ []
-unfolding customaryRefusal
-customary-refusals = refl

@@ -10,22 +10,10 @@ use lib.Pow.{pow-pos, pow-mono}
 use borrow.Author.Tests.{eq-eqb, ne-eqb, eqb-true, leb-true, lt-leb, le-ltb, leb-false, eqb-false, ltb-false}
 use Rattle.generator.specs.declared.Generator.{Generator}
 use Rattle.generator.specs.Recurrence.{modulusOf, modulus}
-use Rattle.generator.specs.Refusals.{refusalOf, orElse, widthRefused, operandRefused, primeRefused}
+use Rattle.generator.specs.Check.{refusalOf, widthRefused, operandRefused, primeRefused}
 use Rattle.generator.specs.Affine.{Linear}
 use Rattle.generator.specs.Prime.{Prime}
-
--- of a choice that gives 0, the refused case is not taken
-pub cond-none : (b : Bool) (n m : ℕ) → cond b (suc n) m ≡ 0 → (b ≡ false) × (m ≡ 0)
-cond-none true n m e = absurd (omega arith)
-cond-none false n m e = (refl, e)
-
-pub or-else-none : (n m : ℕ) → orElse n m ≡ 0 → (n ≡ 0) × (m ≡ 0)
-or-else-none zero m e = (refl, e)
-or-else-none (suc n) m e = absurd (omega arith)
-
-pub or-false : (a b : Bool) → (a || b) ≡ false → (a ≡ false) × (b ≡ false)
-or-false true b e = absurd (true≢false e)
-or-false false b e = (refl, e)
+use Rattle.refusals.proofs.Conditions.{cond-none, or-false}
 
 not-false : (b : Bool) → not b ≡ false → b ≡ true
 not-false true e = refl

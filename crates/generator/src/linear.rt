@@ -1,19 +1,17 @@
 // The linear kind: its conditions on the operands; the map of i steps, made from the lowest bit of i up, and what rests on it.
 ghost use mathlib.Core.Path.{_≡_};
-ghost use Prim.Native.Nat.{_+_, _%_, _^_, _≤_, _<_};
+ghost use Prim.Native.Nat.{_%_, _^_, _≤_};
 ghost use Rattle.generator.specs.Recurrence.{element, step};
-ghost use Rattle.generator.specs.Refusals.{checkNumber, refusalOf};
-ghost use Rattle.generator.specs.Predecessor.{OnlyPredecessor};
+ghost use Rattle.refusals.specs.Refusals.{checkNumber};
+ghost use Rattle.generator.specs.Check.{refusalOf};
 ghost use Rattle.generator.specs.Affine.{Linear, Walks, Composes, apply, onceOf};
 ghost use Rattle.generator.specs.Trace.{affineOf, selectedOf, OneRound, Rounds, Continues};
-use crate::Check;
 use crate::Generator;
-use crate::Refusal;
+use refusals::Check;
+use refusals::Refusal;
 use std::num::wrapping_add_u64;
-use std::num::wrapping_sub_u64;
 use words::bits::exceeds;
 use words::bits::low_bits;
-use words::units::inverse;
 use words::wrapping_mul;
 
 // The map "times factor, plus offset", modulo 2^64.
@@ -157,20 +155,4 @@ pub fn next(g: Generator, x: u64) -> u64
     ensures { λ r. ⌜ r ≡ step g x ⌝ }
 {
     low_bits(value_at(once(g), x), g.width)
-}
-
-// What a step had before it added c and gave y.
-fn before_increment(y: u64, c: u64) -> u64
-    ensures { λ r. ⌜ (r + c) % 2 ^ 64 ≡ y ⌝ }
-{
-    wrapping_sub_u64(y, c)
-}
-
-// The only number that one step of an accepted generator with an odd multiplier takes to y.
-pub fn step_back(g: Generator, y: u64) -> u64
-    requires { ⌜ (Linear g) × (g .multiplier % 2 ≡ 1) × (y < 2 ^ g .width) ⌝ }
-    ensures { λ r. ⌜ OnlyPredecessor g y r ⌝ }
-{
-    let scaled = before_increment(y, g.increment);
-    low_bits(wrapping_mul(inverse(g.multiplier), scaled), g.width)
 }

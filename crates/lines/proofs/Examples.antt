@@ -5,7 +5,7 @@ use Prim.Native.Nat.{ℕ}
 use lib.ListN.{length}
 use Rattle.sequences.specs.Least.{least}
 use Rattle.generator.specs.Recurrence.{modulus, step, element}
-use Rattle.generator.specs.Refusals.{refusalOf}
+use Rattle.generator.specs.Check.{refusalOf}
 use Rattle.sequences.specs.Index.{indexOf}
 use Rattle.sequences.specs.Gap.{occurs}
 use Rattle.sequences.specs.Distinct.{countOf, isNew, distinctOf}

@@ -3,7 +3,7 @@ use mathlib.Core.Path.{_≡_, refl}
 use mathlib.Core.List.{[], _∷_, map}
 use Prim.Native.Nat.{ℕ}
 use Rattle.generator.specs.Recurrence.{modulus, step, element}
-use Rattle.generator.specs.Refusals.{refusalOf}
+use Rattle.generator.specs.Check.{refusalOf}
 use Rattle.lines.specs.Run.{shows, runRefusal}
 use Rattle.lines.specs.Remake.{shownFrom, remadeCount, bufferAfterRemake}
 use Rattle.lines.proofs.Examples.{run}

@@ -7,14 +7,14 @@ use native.Mathlib.Numerals.{add-one}
 use native.Mathlib.Omega.{arith}
 use lib.ListN.{length, take, drop, set, length-set, take-append-drop}
 use lib.Seq.{take-suc-set, drop-set-lt, drop-drop}
-use Rattle.generator.specs.declared.Refusal.{Refusal}
-use Rattle.generator.specs.declared.ValueAnswer.the-variants.{Value, Refused}
+use Rattle.refusals.specs.declared.Refusal.{Refusal}
+use Rattle.refusals.specs.declared.ValueAnswer.the-variants.{Value, Refused}
 use Rattle.generator.specs.Recurrence.{step, element}
-use Rattle.generator.specs.Refusals.{numberOf}
-use Rattle.generator.specs.Replies.{valueOf}
+use Rattle.refusals.specs.Refusals.{numberOf}
+use Rattle.refusals.specs.Replies.{plainValue}
 use Rattle.generator.specs.Kinds.{IsElement}
 use Rattle.generator.proofs.Elements.{element-next}
-use Rattle.generator.proofs.Replies.{number-suc, value-refused, value-given}
+use Rattle.refusals.proofs.Replies.{number-suc, value-refused, value-given}
 use Rattle.lines.specs.declared.Run.{Run}
 use Rattle.lines.specs.Run.{shows, runRefusal}
 use Rattle.lines.specs.Remake.{shownFrom, remadeCount, remadeFront, RemakePromise}
@@ -78,16 +78,16 @@ module _ {run : Run} {p : ℕ} {before buffer : List ℕ} {number k : ℕ} (s : 
 
 -- The ways out of the call.
 pub remake-refused : (run : Run) (p : ℕ) (buffer : List ℕ) (x : Refusal) → numberOf x ≡ runRefusal run →
-    RemakePromise run p buffer buffer (valueOf (Refused x))
+    RemakePromise run p buffer buffer (plainValue (Refused x))
 remake-refused run p buffer x e =
     record { equals = value-refused x _ e; buffer = let k = number-suc x in rw (← e, k .1) }
 
 module _ (run : Run) (p : ℕ) {before : List ℕ} (z : runRefusal run ≡ 0) where
   pub remake-done : {after : List ℕ} {n : ℕ} → n ≡ remadeCount run p (length before) → after ≡ remadeFront run p n before →
-      RemakePromise run p before after (valueOf (Value n))
+      RemakePromise run p before after (plainValue (Value n))
   remake-done {after} {n} e w =
       record { equals = value-given _ z e; buffer = rw z (w ∙ ap (λ (j : ℕ). remadeFront run p j before) e) }
 
-  pub remake-none : run .count ≤ p → RemakePromise run p before before (valueOf (Value 0))
+  pub remake-none : run .count ≤ p → RemakePromise run p before before (plainValue (Value 0))
   unfolding shownFrom
   remake-none h = remake-done (omega arith) refl

@@ -9,14 +9,14 @@ use lib.Dec.{ltb}
 use lib.ListN.{length, take, length-take}
 use lib.Seq.{take-at}
 use borrow.Author.Tests.{le-ltb}
-use Rattle.generator.specs.declared.Refusal.{Refusal}
-use Rattle.generator.specs.declared.ValueAnswer.{ValueAnswer}
-use Rattle.generator.specs.declared.ValueAnswer.the-variants.{Value, Refused}
-use Rattle.generator.specs.Refusals.{numberOf, orElse}
-use Rattle.generator.specs.declared.ValueReply.{ValueReply}
-use Rattle.generator.specs.Replies.{valueReply, valueOf}
-use Rattle.generator.proofs.Refusals.{or-else-none}
-use Rattle.generator.proofs.Replies.{number-suc}
+use Rattle.refusals.specs.declared.Refusal.{Refusal}
+use Rattle.refusals.specs.declared.ValueAnswer.{ValueAnswer}
+use Rattle.refusals.specs.declared.ValueAnswer.the-variants.{Value, Refused}
+use Rattle.refusals.specs.Refusals.{numberOf, orElse}
+use Rattle.refusals.specs.declared.ValueReply.{ValueReply}
+use Rattle.refusals.specs.Replies.{valueReply, plainValue}
+use Rattle.refusals.proofs.Conditions.{or-else-none}
+use Rattle.refusals.proofs.Replies.{number-suc}
 use Rattle.lines.specs.declared.Run.{Run}
 use Rattle.lines.specs.Run.{runRefusal}
 use Rattle.lines.specs.Line.{lineOf}
@@ -72,8 +72,8 @@ read-writes r z w y = written-line w y ∙ sym (r .accepted z .line)
 
 -- For a client that has a buffer of 107 bytes: it is refused only what the run is refused, and gets the run back.
 pub write-as : {run : Run} {before after : List ℕ} {a : ValueAnswer} (b : ValueAnswer) → a ≡ b →
-    WritePromise run before after (valueOf a) → WritePromise run before after (valueOf b)
-write-as {run} {before} {after} b e w = subst (λ (c : ValueAnswer). WritePromise run before after (valueOf c)) e w
+    WritePromise run before after (plainValue a) → WritePromise run before after (plainValue b)
+write-as {run} {before} {after} b e w = subst (λ (c : ValueAnswer). WritePromise run before after (plainValue c)) e w
 
 room-enough : (run : Run) (buffer : List ℕ) → 107 ≤ length buffer → writeRefusal run buffer ≡ runRefusal run
 unfolding writeRefusal
@@ -83,18 +83,18 @@ room-enough run buffer l = go (runRefusal run) refl
     go zero e = rw (le-ltb (length buffer) (length (lineOf run)) (omega (arith, line-short (valid-run run e))))
     go (suc n) e = refl
 
-pub write-refusal : {run : Run} {before after : List ℕ} (x : Refusal) → WritePromise run before after (valueOf (Refused x)) →
+pub write-refusal : {run : Run} {before after : List ℕ} (x : Refusal) → WritePromise run before after (plainValue (Refused x)) →
     107 ≤ length before → refusedRun (numberOf x) ≡ runReply (runRefusal run) run
 write-refusal {run} {before} x w l =
     let e : numberOf x ≡ runRefusal run =
     ap (λ (r : ValueReply). r .refusal) (w .equals) ∙ reply-refusal _ _ ∙ room-enough run before l in
     let k = number-suc x in rw (← e, k .1)
 
-pub written-fits : {run : Run} {before after : List ℕ} {n : ℕ} → WritePromise run before after (valueOf (Value n)) → n ≤ length after
+pub written-fits : {run : Run} {before after : List ℕ} {n : ℕ} → WritePromise run before after (plainValue (Value n)) → n ≤ length after
 written-fits {run} {before} {after} {n} w =
     let e : n ≡ length (lineOf run) = ap (λ (r : ValueReply). r .value) (w .equals) ∙ reply-value _ (accepted w refl) in
     omega (arith, length-take n after, ap length (written-line w refl))
 
-pub written-back : {run : Run} {before after : List ℕ} {n : ℕ} {reads : RunReply} → WritePromise run before after (valueOf (Value n)) →
+pub written-back : {run : Run} {before after : List ℕ} {n : ℕ} {reads : RunReply} → WritePromise run before after (plainValue (Value n)) →
     ReadPromise (take n after) reads → reads ≡ runReply (runRefusal run) run
 written-back {run} w r = written-reads w refl r ∙ sym (ap (λ (n : ℕ). runReply n run) (written-run w refl))

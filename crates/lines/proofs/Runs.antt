@@ -1,5 +1,5 @@
 -- Laws of runs: what the refusal table leaves of an accepted one, how long its line is, and its variety.
-use mathlib.Core.Path.{_≡_, sym, _∙_}
+use mathlib.Core.Path.{_≡_, sym}
 use mathlib.Core.Bool.{false, cond}
 use mathlib.Core.Logic.{by-cases}
 use Prim.Native.Nat.{ℕ, suc, _+_, _^_, _-_, _≤_, _<_, min}
@@ -12,14 +12,16 @@ use borrow.Author.Tests.{eqb-false, leb-false}
 use Rattle.sequences.specs.Orbit.{IsOrbit}
 use Rattle.sequences.specs.Distinct.{Distinct}
 use Rattle.sequences.proofs.Distinct.{distinct-is, distinct-only, distinct-from}
-use Rattle.generator.specs.declared.Refusal.{Refusal}
-use Rattle.generator.specs.declared.ValueAnswer.the-variants.{Value, Refused}
+use Rattle.refusals.specs.declared.Refusal.{Refusal}
+use Rattle.refusals.specs.declared.ValueAnswer.the-variants.{Value, Refused}
 use Rattle.generator.specs.Recurrence.{modulus, element}
-use Rattle.generator.specs.Refusals.{refusalOf, numberOf}
-use Rattle.generator.specs.Replies.{valueOf}
-use Rattle.generator.proofs.Refusals.{Accepted, accepted, modulus-word, cond-none, or-false, or-else-none}
+use Rattle.generator.specs.Check.{refusalOf}
+use Rattle.refusals.specs.Refusals.{numberOf}
+use Rattle.refusals.specs.Replies.{plainValue}
+use Rattle.generator.proofs.Refusals.{Accepted, accepted, modulus-word}
+use Rattle.refusals.proofs.Conditions.{cond-none, or-false, or-else-none}
 use Rattle.generator.proofs.Elements.{element-follows}
-use Rattle.generator.proofs.Replies.{number-nonzero, value-refused, value-given}
+use Rattle.refusals.proofs.Replies.{number-nonzero, value-refused, value-given}
 use Rattle.orbits.specs.declared.kinds.Cycle.{Cycle}
 use Rattle.orbits.specs.Orbit.{IsCycle}
 use Rattle.fields.specs.Digits.{digitsOf}
@@ -110,7 +112,7 @@ module _ (run : Run) where
   distinct-by o = distinct-from (element-follows (run .generator)) o (run .first) (run .count)
 
   pub variety-given : {cycle : Cycle} {v : ℕ} → runRefusal run ≡ 0 → IsCycle (run .generator) cycle →
-      v ≡ min (run .count) (cycle .preperiod - run .first + (cycle .last + 1)) → VarietyPromise run (valueOf (Value v))
+      v ≡ min (run .count) (cycle .preperiod - run .first + (cycle .last + 1)) → VarietyPromise run (plainValue (Value v))
   unfolding varietyOf
   variety-given {v = v} z is e =
       record {
@@ -122,7 +124,7 @@ module _ (run : Run) where
       means : Distinct (shows run) (run .count) v
       means = rw e (distinct-by (is .orbit))
 
-pub variety-refused : (run : Run) (x : Refusal) → numberOf x ≡ runRefusal run → VarietyPromise run (valueOf (Refused x))
+pub variety-refused : (run : Run) (x : Refusal) → numberOf x ≡ runRefusal run → VarietyPromise run (plainValue (Refused x))
 variety-refused run x e =
     record {
       equals = value-refused x _ e;

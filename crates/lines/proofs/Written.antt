@@ -7,19 +7,19 @@ use lib.ListN.{length, drop}
 use borrow.Author.Tests.{lt-ltb, le-ltb}
 use Rattle.fields.specs.Line.{fieldsLine}
 use Rattle.fields.specs.Codec.{FrontWritten}
-use Rattle.generator.specs.declared.Refusal.{Refusal}
-use Rattle.generator.specs.declared.Refusal.the-variants.{BufferTooShort}
-use Rattle.generator.specs.declared.ValueAnswer.the-variants.{Value, Refused}
-use Rattle.generator.specs.Refusals.{numberOf}
-use Rattle.generator.specs.Replies.{valueOf}
-use Rattle.generator.proofs.Replies.{number-suc, value-refused, value-given}
+use Rattle.refusals.specs.declared.Refusal.{Refusal}
+use Rattle.refusals.specs.declared.Refusal.the-variants.{BufferTooShort}
+use Rattle.refusals.specs.declared.ValueAnswer.the-variants.{Value, Refused}
+use Rattle.refusals.specs.Refusals.{numberOf}
+use Rattle.refusals.specs.Replies.{plainValue}
+use Rattle.refusals.proofs.Replies.{number-suc, value-refused, value-given}
 use Rattle.lines.specs.declared.Run.{Run}
 use Rattle.lines.specs.Run.{runRefusal}
 use Rattle.lines.specs.Line.{numbersOf, lineOf}
 use Rattle.lines.specs.WriteLine.{writeRefusal, WritePromise}
 
 pub write-refused : (run : Run) (buffer : List ℕ) (x : Refusal) → numberOf x ≡ writeRefusal run buffer →
-    WritePromise run buffer buffer (valueOf (Refused x))
+    WritePromise run buffer buffer (plainValue (Refused x))
 write-refused run buffer x e =
     record { equals = value-refused x _ e; buffer = let k = number-suc x in rw (← e, k .1) }
 
@@ -29,13 +29,13 @@ module _ (run : Run) {numbers : List ℕ} {n : ℕ} (z : runRefusal run ≡ 0) (
   size : n ≡ length (lineOf run)
   size = l ∙ ap (λ (vs : List ℕ). length (fieldsLine vs)) e
 
-  pub write-short : (before : List ℕ) → length before < n → WritePromise run before before (valueOf (Refused BufferTooShort))
+  pub write-short : (before : List ℕ) → length before < n → WritePromise run before before (plainValue (Refused BufferTooShort))
   unfolding writeRefusal
   write-short before h =
       write-refused run before BufferTooShort (simp (z, lt-ltb (length before) (length (lineOf run)) (omega (arith, size))))
 
   pub write-done : {before after : List ℕ} {m : ℕ} → n ≤ length before → FrontWritten (fieldsLine numbers) before after m →
-      WritePromise run before after (valueOf (Value m))
+      WritePromise run before after (plainValue (Value m))
   write-done {before} {after} {m} h w = record { equals = value-given _ fits (w .count ∙ sym l ∙ size); buffer = rw fits whole }
     where
       fits : writeRefusal run before ≡ 0

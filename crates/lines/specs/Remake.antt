@@ -3,8 +3,8 @@ use mathlib.Core.Path.{_≡_}
 use mathlib.Core.List.{List, [], _∷_, _++_}
 use Prim.Native.Nat.{ℕ, zero, suc, _-_, min}
 use lib.ListN.{length, drop}
-use Rattle.generator.specs.declared.ValueReply.{ValueReply}
-use Rattle.generator.specs.Replies.{valueReply}
+use Rattle.refusals.specs.declared.ValueReply.{ValueReply}
+use Rattle.refusals.specs.Replies.{valueReply}
 use Rattle.lines.specs.declared.Run.{Run}
 use Rattle.lines.specs.Run.{shows, runRefusal}
 

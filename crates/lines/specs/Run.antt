@@ -3,7 +3,8 @@ use mathlib.Core.Bool.{Bool, cond, _||_}
 use Prim.Native.Nat.{ℕ, _+_, _^_}
 use lib.Dec.{eqb, leb}
 use Rattle.generator.specs.Recurrence.{element}
-use Rattle.generator.specs.Refusals.{orElse, refusalOf}
+use Rattle.refusals.specs.Refusals.{orElse}
+use Rattle.generator.specs.Check.{refusalOf}
 use Rattle.lines.specs.declared.Run.{Run}
 
 -- What position p shows.

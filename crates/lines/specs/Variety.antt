@@ -4,8 +4,8 @@ use Prim.Native.Nat.{ℕ, _+_, _-_, min}
 use Rattle.sequences.specs.Orbit.{IsOrbit}
 use Rattle.sequences.specs.Distinct.{distinctOf, Distinct}
 use Rattle.generator.specs.Recurrence.{element}
-use Rattle.generator.specs.declared.ValueReply.{ValueReply}
-use Rattle.generator.specs.Replies.{valueReply}
+use Rattle.refusals.specs.declared.ValueReply.{ValueReply}
+use Rattle.refusals.specs.Replies.{valueReply}
 use Rattle.lines.specs.declared.Run.{Run}
 use Rattle.lines.specs.Run.{shows, runRefusal}
 

@@ -5,9 +5,9 @@ use mathlib.Core.List.{List, _++_}
 use Prim.Native.Nat.{ℕ, zero, suc}
 use lib.Dec.{ltb}
 use lib.ListN.{length, drop}
-use Rattle.generator.specs.Refusals.{orElse}
-use Rattle.generator.specs.declared.ValueReply.{ValueReply}
-use Rattle.generator.specs.Replies.{valueReply}
+use Rattle.refusals.specs.Refusals.{orElse}
+use Rattle.refusals.specs.declared.ValueReply.{ValueReply}
+use Rattle.refusals.specs.Replies.{valueReply}
 use Rattle.lines.specs.declared.Run.{Run}
 use Rattle.lines.specs.Run.{runRefusal}
 use Rattle.lines.specs.Line.{lineOf}

@@ -2,7 +2,7 @@
 ghost use mathlib.Core.Path.{_≡_};
 ghost use Prim.Native.Nat.{_+_, _^_, _≤_, _<_, min};
 ghost use lib.ListN.{length};
-ghost use Rattle.generator.specs.Refusals.{refusalOf};
+ghost use Rattle.generator.specs.Check.{refusalOf};
 ghost use Rattle.lines.specs.Remake.{remadeFront};
 use crate::Run;
 use generator::kinds::next_of;

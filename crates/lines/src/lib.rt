@@ -1,7 +1,7 @@
 // Runs: their lines, read and written, their numbers and their variety.
 ghost use mathlib.Core.Path.{_≡_};
-ghost use Rattle.generator.specs.Refusals.{checkNumber};
-ghost use Rattle.generator.specs.Replies.{valueOf};
+ghost use Rattle.refusals.specs.Refusals.{checkNumber};
+ghost use Rattle.refusals.specs.Replies.{plainValue};
 ghost use Rattle.lines.specs.Run.{runRefusal};
 ghost use Rattle.lines.specs.ReadLine.{ReadPromise, replyOf};
 ghost use Rattle.lines.specs.WriteLine.{WritePromise};
@@ -11,13 +11,13 @@ use distinct::distinct_values;
 use fields::line;
 use filling::fill;
 use filling::fitting;
-use generator::Check;
 use generator::Generator;
-use generator::Refusal;
-use generator::ValueAnswer;
 use numbers::numbers_of;
 use numbers::run_of;
 use orbits::kinds::cycle_of;
+use refusals::Check;
+use refusals::Refusal;
+use refusals::ValueAnswer;
 
 pub mod distinct;
 pub mod filling;
@@ -79,7 +79,7 @@ pub fn read_line(bytes: &[u8]) -> RunAnswer
 
 // Writes a run's line from the buffer's first byte on, and gives the number of bytes.
 pub fn write_line(run: Run, buffer: &mut [u8]) -> ValueAnswer
-    ensures { λ r. ⌜ WritePromise run (now (buffer .entry)) (now (buffer .exit)) (valueOf r) ⌝ }
+    ensures { λ r. ⌜ WritePromise run (now (buffer .entry)) (now (buffer .exit)) (plainValue r) ⌝ }
 {
     let verdict = checked(run);
     if let Check::Refused(refusal) = verdict {
@@ -95,7 +95,7 @@ pub fn write_line(run: Run, buffer: &mut [u8]) -> ValueAnswer
 
 // How many different numbers the run shows.
 pub fn variety(run: Run) -> ValueAnswer
-    ensures { λ r. ⌜ VarietyPromise run (valueOf r) ⌝ }
+    ensures { λ r. ⌜ VarietyPromise run (plainValue r) ⌝ }
 {
     let verdict = checked(run);
     if let Check::Refused(refusal) = verdict {
@@ -107,7 +107,7 @@ pub fn variety(run: Run) -> ValueAnswer
 
 // Writes what the run shows from this position on to the buffer's front, as much as both have, and gives how many numbers.
 pub fn remake(run: Run, position: u64, numbers: &mut [u64]) -> ValueAnswer
-    ensures { λ r. ⌜ RemakePromise run position (now (numbers .entry)) (now (numbers .exit)) (valueOf r) ⌝ }
+    ensures { λ r. ⌜ RemakePromise run position (now (numbers .entry)) (now (numbers .exit)) (plainValue r) ⌝ }
 {
     let verdict = checked(run);
     if let Check::Refused(refusal) = verdict {

@@ -5,7 +5,7 @@ use crate::Run;
 use crate::RunAnswer;
 use crate::RunReply;
 use generator::Generator;
-use generator::refusal_number::number;
+use refusals::number;
 
 // The run of zeros.
 const NO_RUN: Run = Run {

@@ -2,10 +2,10 @@
 // passes as a pointer and a length.
 ghost use mathlib.Core.Path.{_≡_};
 ghost use Rattle.generator.specs.Recurrence.{element};
-ghost use Rattle.generator.specs.Refusals.{refusalOf};
-ghost use Rattle.generator.specs.Replies.{valueReply};
-ghost use Rattle.generator.specs.Predecessor.{PredecessorPromise};
-ghost use Rattle.generator.specs.Customary.{CustomaryPromise};
+ghost use Rattle.generator.specs.Check.{refusalOf};
+ghost use Rattle.refusals.specs.Replies.{valueReply};
+ghost use Rattle.predecessors.specs.Predecessor.{PredecessorPromise};
+ghost use Rattle.customary.specs.Customary.{CustomaryPromise};
 ghost use Rattle.orbits.specs.Orbit.{OrbitPromise};
 ghost use Rattle.orbits.specs.Index.{IndexPromise};
 ghost use Rattle.orbits.specs.Gap.{GapPromise};
@@ -23,8 +23,6 @@ use archive::SummaryReply;
 use archive::plain::of_lookup;
 use archive::plain::of_summary;
 use generator::Generator;
-use generator::ValueReply;
-use generator::plain::of_value;
 use lines::Run;
 use lines::RunReply;
 use lines::plain::of_run;
@@ -36,6 +34,8 @@ use orbits::plain::of_gap;
 use orbits::plain::of_index;
 use orbits::plain::of_orbit;
 use orbits::plain::of_places;
+use refusals::ValueReply;
+use refusals::of_value;
 
 // The element at this index.
 #[no_mangle]
@@ -82,7 +82,7 @@ pub extern "C" fn np_gap(g: Generator, from: u64, to: u64) -> GapReply
 pub extern "C" fn np_predecessor(g: Generator, value: u64) -> ValueReply
     ensures { λ r. ⌜ PredecessorPromise g value r ⌝ }
 {
-    of_value(generator::predecessor(g, value))
+    of_value(predecessors::predecessor(g, value))
 }
 
 // The largest odd power of 5 below 2^width.
@@ -90,7 +90,7 @@ pub extern "C" fn np_predecessor(g: Generator, value: u64) -> ValueReply
 pub extern "C" fn np_customary_multiplier(width: u64) -> ValueReply
     ensures { λ r. ⌜ CustomaryPromise width r ⌝ }
 {
-    of_value(generator::customary_multiplier(width))
+    of_value(customary::customary_multiplier(width))
 }
 
 // How many different numbers the run shows.

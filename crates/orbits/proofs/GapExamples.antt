@@ -10,7 +10,7 @@ use Rattle.sequences.specs.Orbit.{returnOf, preperiodOf, periodOf}
 use Rattle.sequences.specs.Gap.{occurs, aheadOf, stepsOf, stepped, Leads, InRange}
 use Rattle.generator.specs.declared.Generator.{Generator}
 use Rattle.generator.specs.Recurrence.{modulus, step, element}
-use Rattle.generator.specs.Refusals.{refusalOf}
+use Rattle.generator.specs.Check.{refusalOf}
 use Rattle.orbits.specs.declared.GapReply.{GapReply}
 use Rattle.orbits.specs.Gap.{oddRefusal, gapRefusal, period, gapReply}
 

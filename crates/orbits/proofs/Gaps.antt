@@ -20,13 +20,15 @@ use Rattle.sequences.proofs.Orbits.{period-is}
 use Rattle.sequences.proofs.Search.{settles-found, settles-orbit}
 use Rattle.sequences.proofs.Gaps.{Steps, located-occurs, absent-missing, gap-is, gap-found, gap-never}
 use Rattle.generator.specs.declared.Generator.{Generator}
-use Rattle.generator.specs.declared.Refusal.{Refusal}
+use Rattle.refusals.specs.declared.Refusal.{Refusal}
 use Rattle.generator.specs.Recurrence.{step, element}
-use Rattle.generator.specs.Refusals.{numberOf, refusalOf}
+use Rattle.refusals.specs.Refusals.{numberOf}
+use Rattle.generator.specs.Check.{refusalOf}
 use Rattle.generator.specs.Affine.{Linear}
-use Rattle.generator.proofs.Refusals.{cond-none, or-else-none, modulus-word}
+use Rattle.refusals.proofs.Conditions.{cond-none, or-else-none}
+use Rattle.generator.proofs.Refusals.{modulus-word}
 use Rattle.generator.proofs.Elements.{element-next}
-use Rattle.generator.proofs.Replies.{number-suc, number-nonzero}
+use Rattle.refusals.proofs.Replies.{number-suc, number-nonzero}
 use Rattle.orbits.specs.declared.GapAnswer.the-variants as answer
 use Rattle.orbits.specs.declared.kinds.Sighting.the-variants as sighting
 use Rattle.orbits.specs.Orbit.{IsCycle}

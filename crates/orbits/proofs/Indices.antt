@@ -9,12 +9,13 @@ use Rattle.sequences.specs.Index.{Located, Absent}
 use Rattle.sequences.proofs.Indices.{located-is, located-demand, absent-is, absent-demand}
 use Rattle.sequences.proofs.LowPlaces.{reduced-absent}
 use Rattle.generator.specs.declared.Generator.{Generator}
-use Rattle.generator.specs.declared.Refusal.{Refusal}
+use Rattle.refusals.specs.declared.Refusal.{Refusal}
 use Rattle.generator.specs.Recurrence.{modulus, element}
-use Rattle.generator.specs.Refusals.{numberOf, refusalOf}
+use Rattle.refusals.specs.Refusals.{numberOf}
+use Rattle.generator.specs.Check.{refusalOf}
 use Rattle.generator.specs.Affine.{Linear}
 use Rattle.generator.proofs.Refusals.{prime}
-use Rattle.generator.proofs.Replies.{number-suc, number-nonzero}
+use Rattle.refusals.proofs.Replies.{number-suc, number-nonzero}
 use Rattle.orbits.specs.declared.IndexAnswer.the-variants.{At, Never, Refused}
 use Rattle.orbits.specs.declared.kinds.Sighting.the-variants as sighting
 use Rattle.orbits.specs.Gap.{SightingIs}

@@ -10,4 +10,3 @@ pub mod SignedCounts
 pub mod Gaps
 mod GapExamples
 mod PlacesExamples
-pub mod WorkedRuns

@@ -7,30 +7,29 @@ use Prim.Native.Nat.{ℕ, zero, suc, _+_, _-_, _/_, _%_, _^_, _≤_, _<_}
 use native.Mathlib.Nat.{le-of-lt, le-refl, le-trans, lt-of-lt-of-le}
 use native.Mathlib.Decide.{ℕ-discrete}
 use native.Mathlib.Omega.{arith}
-use lib.Pow.{pow-pos, pow-lt, pow-mono}
-use borrow.Author.Tests.{eq-eqb, ne-eqb}
+use lib.Pow.{pow-pos, pow-mono}
 use Rattle.words.specs.Alpha.{Alpha, FirstDifference}
 use Rattle.words.proofs.Congruence.{same-sym, same-trans, same-lower, mod-two}
-use Rattle.sequences.specs.Orbit.{IsOrbit}
+use Rattle.sequences.specs.Orbit.{IsOrbit, exponentOf}
 use Rattle.sequences.specs.Places.{Agree}
-use Rattle.sequences.proofs.Least.{least-unique}
-use Rattle.sequences.proofs.Orbits.{orbit-never, preperiod-is, period-is}
+use Rattle.sequences.proofs.Orbits.{orbit-never, preperiod-is, period-is, exponent-is}
 use Rattle.sequences.proofs.Agreement.{reduced-eq}
 use Rattle.sequences.proofs.Isometric.{exponent, exponent-le, isometric-orbit}
 use Rattle.sequences.proofs.Contracting.{rest-orbit, resting, Scaling, scaling-contracting, scaled-rests}
 use Rattle.generator.specs.declared.Generator.{Generator}
-use Rattle.generator.specs.declared.Refusal.{Refusal}
+use Rattle.refusals.specs.declared.Refusal.{Refusal}
 use Rattle.generator.specs.declared.linear.Affine.{Affine}
 use Rattle.generator.specs.Recurrence.{modulus, element}
-use Rattle.generator.specs.Refusals.{numberOf, refusalOf}
+use Rattle.refusals.specs.Refusals.{numberOf}
+use Rattle.generator.specs.Check.{refusalOf}
 use Rattle.generator.specs.Affine.{Linear, onceOf, apply}
 use Rattle.generator.specs.Prime.{Prime}
 use Rattle.generator.proofs.Refusals.{modulus-linear, linear, prime}
 use Rattle.generator.proofs.Elements.{element-start, element-follows}
-use Rattle.generator.proofs.Replies.{number-suc, number-nonzero}
+use Rattle.refusals.proofs.Replies.{number-suc, number-nonzero}
 use Rattle.orbits.specs.declared.OrbitAnswer.the-variants.{Orbit, Period, Refused}
 use Rattle.orbits.specs.declared.kinds.Cycle.{Cycle}
-use Rattle.orbits.specs.Orbit.{exponentOf, orbitReply, orbitOf, OrbitPromise, IsCycle}
+use Rattle.orbits.specs.Orbit.{orbitReply, orbitOf, OrbitPromise, IsCycle}
 use Rattle.orbits.proofs.Elements.{reduced, isometric, one-held, scaling, contracting}
 use Rattle.orbits.proofs.Primes.{prime-orbit, prime-cycle}
 
@@ -129,16 +128,6 @@ module _ {g : Generator} {cycle : Cycle} (is : IsCycle g cycle) where
   -- a number that no index below the modulus yields is never yielded
   pub cycle-never : {y : ℕ} → ((i : ℕ) → i < modulus g → element g i ≡ y → ⊥) → (i : ℕ) → element g i ≡ y → ⊥
   cycle-never d = orbit-never (element-follows g) (is .orbit) (λ i l. d i (lt-of-lt-of-le l cycle-room))
-
-pub exponent-is : (e : ℕ) → e ≤ 64 → exponentOf (2 ^ e) ≡ e
-unfolding exponentOf
-exponent-is e l =
-    least-unique
-    (record {
-      within = omega arith;
-      holds = λ h. eq-eqb (2 ^ e) (2 ^ e) refl;
-      first = λ j h. ne-eqb (2 ^ j) (2 ^ e) (λ q. omega (arith, pow-lt h));
-    })
 
 -- what the reply carries, by the width
 by-exponent : {n : ℕ} → 1 ≤ n → (t P : ℕ) →

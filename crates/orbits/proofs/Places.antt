@@ -12,19 +12,12 @@ use lib.Pow.{pow-pos, pow-mono}
 use borrow.Author.Tests.{lt-ltb, le-ltb, eqb-false, ltb-false, ne-eqb}
 use Rattle.words.proofs.Congruence.{mod-two}
 use Rattle.sequences.specs.Index.{indexOf, Absent}
-use Rattle.sequences.specs.Orbit.{returnOf, preperiodOf, periodOf}
+use Rattle.sequences.specs.Orbit.{returnOf, preperiodOf, periodOf, exponentOf}
 use Rattle.sequences.specs.Occurrences.{low}
 use Rattle.sequences.proofs.Indices.{located-is, absent-is}
 use Rattle.sequences.proofs.Isometric.{exponent-le, isometric-orbit}
-use Rattle.sequences.proofs.Orbits.{Follows, preperiod-is, period-is}
-use Rattle.sequences.proofs.LowPlaces.{
-  low-reduced,
-  low-isometric,
-  isometric-follows,
-  contracting-follows,
-  low-rest,
-  whole-index,
-}
+use Rattle.sequences.proofs.Orbits.{Follows, preperiod-is, period-is, exponent-is}
+use Rattle.sequences.proofs.LowPlaces.{low-reduced, low-isometric, isometric-follows, contracting-follows, low-rest, whole-index}
 use Rattle.sequences.proofs.Occurrences.{
   alone-all,
   alone-return,
@@ -35,15 +28,16 @@ use Rattle.sequences.proofs.Occurrences.{
   absent-all,
 }
 use Rattle.generator.specs.declared.Generator.{Generator}
-use Rattle.generator.specs.declared.Refusal.{Refusal}
+use Rattle.refusals.specs.declared.Refusal.{Refusal}
 use Rattle.generator.specs.Recurrence.{modulus, element}
-use Rattle.generator.specs.Refusals.{numberOf, refusalOf}
+use Rattle.refusals.specs.Refusals.{numberOf}
+use Rattle.generator.specs.Check.{refusalOf}
 use Rattle.generator.specs.Affine.{Linear}
-use Rattle.generator.proofs.Refusals.{cond-none, or-else-none, or-false, linear}
-use Rattle.generator.proofs.Replies.{number-suc, number-nonzero}
+use Rattle.refusals.proofs.Conditions.{cond-none, or-else-none, or-false}
+use Rattle.generator.proofs.Refusals.{linear}
+use Rattle.refusals.proofs.Replies.{number-suc, number-nonzero}
 use Rattle.orbits.specs.declared.PlacesAnswer.the-variants as answer
 use Rattle.orbits.specs.declared.kinds.Occurrences.the-variants as occurrences
-use Rattle.orbits.specs.Orbit.{exponentOf}
 use Rattle.orbits.specs.Index.{indexReply}
 use Rattle.orbits.specs.Places.{
   rangeRefusal,
@@ -59,7 +53,7 @@ use Rattle.orbits.specs.Places.{
   OccurrencesIs,
 }
 use Rattle.orbits.proofs.Elements.{reduced, isometric, contracting}
-use Rattle.orbits.proofs.Orbits.{lt-two-pow, places-room, exponent-is}
+use Rattle.orbits.proofs.Orbits.{lt-two-pow, places-room}
 
 -- what the call accepts
 pub places-accepted : (g : Generator) (m : ℕ) → placesRefusal g m ≡ 0 → (refusalOf g ≡ 0) × (1 ≤ m) × (m ≤ g .width)

@@ -4,22 +4,13 @@ use mathlib.Core.List.{[], _∷_, map}
 use Prim.Native.Nat.{ℕ}
 use Rattle.sequences.specs.Least.{least}
 use Rattle.sequences.specs.Index.{indexOf}
-use Rattle.sequences.specs.Orbit.{returnOf, preperiodOf}
+use Rattle.sequences.specs.Orbit.{returnOf, preperiodOf, exponentOf}
 use Rattle.sequences.specs.Occurrences.{low}
 use Rattle.generator.specs.declared.Generator.{Generator}
 use Rattle.generator.specs.Recurrence.{modulus, step, element}
-use Rattle.generator.specs.Refusals.{refusalOf}
+use Rattle.generator.specs.Check.{refusalOf}
 use Rattle.orbits.specs.declared.PlacesReply.{PlacesReply}
-use Rattle.orbits.specs.Orbit.{exponentOf}
-use Rattle.orbits.specs.Places.{
-  rangeRefusal,
-  placesRefusal,
-  onceReply,
-  everyReply,
-  neverReply,
-  refusedReply,
-  placesReply,
-}
+use Rattle.orbits.specs.Places.{rangeRefusal, placesRefusal, onceReply, everyReply, neverReply, refusedReply, placesReply}
 
 abbrev gen : ℕ → ℕ → ℕ → ℕ → Generator
 gen n a c x = record { width = n; multiplier = a; increment = c; seed = x }

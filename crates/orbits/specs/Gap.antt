@@ -9,7 +9,8 @@ use Rattle.sequences.specs.Orbit.{periodOf}
 use Rattle.sequences.specs.Gap.{occurs, stepsOf, Between}
 use Rattle.generator.specs.declared.Generator.{Generator}
 use Rattle.generator.specs.Recurrence.{modulus, step, element}
-use Rattle.generator.specs.Refusals.{numberOf, orElse, refusalOf}
+use Rattle.refusals.specs.Refusals.{numberOf, orElse}
+use Rattle.generator.specs.Check.{refusalOf}
 use Rattle.orbits.specs.declared.GapAnswer.{GapAnswer}
 use Rattle.orbits.specs.declared.GapAnswer.the-variants as answer
 use Rattle.orbits.specs.declared.GapReply.{GapReply}

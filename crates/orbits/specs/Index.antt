@@ -7,7 +7,8 @@ use lib.Dec.{ltb}
 use Rattle.sequences.specs.Index.{indexOf, Demand3, Located, Absent}
 use Rattle.generator.specs.declared.Generator.{Generator}
 use Rattle.generator.specs.Recurrence.{modulus, element}
-use Rattle.generator.specs.Refusals.{numberOf, refusalOf}
+use Rattle.refusals.specs.Refusals.{numberOf}
+use Rattle.generator.specs.Check.{refusalOf}
 use Rattle.orbits.specs.declared.IndexAnswer.{IndexAnswer}
 use Rattle.orbits.specs.declared.IndexAnswer.the-variants as answer
 use Rattle.orbits.specs.declared.kinds.Position.{Position}

@@ -4,4 +4,3 @@ pub mod Orbit
 pub mod Index
 pub mod Gap
 pub mod Places
-pub mod WorkedRuns

@@ -1,20 +1,15 @@
 -- The orbit of a generator (SCOPE 3.2; document 02, note 5).
 use mathlib.Core.Path.{_≡_}
 use Prim.Native.Nat.{ℕ, zero, suc, _+_, _%_, _^_, _≤_, _<_}
-use lib.Dec.{eqb}
-use Rattle.sequences.specs.Least.{least}
-use Rattle.sequences.specs.Orbit.{preperiodOf, periodOf, IsOrbit}
+use Rattle.sequences.specs.Orbit.{preperiodOf, periodOf, IsOrbit, exponentOf}
 use Rattle.generator.specs.declared.Generator.{Generator}
 use Rattle.generator.specs.Recurrence.{modulus, element}
-use Rattle.generator.specs.Refusals.{numberOf, refusalOf}
+use Rattle.refusals.specs.Refusals.{numberOf}
+use Rattle.generator.specs.Check.{refusalOf}
 use Rattle.orbits.specs.declared.OrbitAnswer.{OrbitAnswer}
 use Rattle.orbits.specs.declared.OrbitAnswer.the-variants.{Orbit, Period, Refused}
 use Rattle.orbits.specs.declared.kinds.Cycle.{Cycle}
 use Rattle.orbits.specs.declared.OrbitReply.{OrbitReply}
-
--- The exponent of a power of two, 0 to 64.
-unfoldable pub exponentOf : ℕ → ℕ
-exponentOf p = least (λ e. eqb (2 ^ e) p) 65
 
 -- The reply for a refusal's number, 0 for none, a width, a preperiod and a period: the period by its exponent of 2, and at width
 -- 0 the period itself. Zeros stand beside a refusal.

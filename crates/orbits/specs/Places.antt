@@ -6,18 +6,18 @@ use mathlib.Core.Logic.{_↔_}
 use Prim.Native.Nat.{ℕ, zero, suc, _%_, _^_, _≤_}
 use lib.Dec.{eqb, ltb}
 use Rattle.sequences.specs.Index.{indexOf, Absent}
-use Rattle.sequences.specs.Orbit.{returnOf, IsOrbit}
+use Rattle.sequences.specs.Orbit.{returnOf, IsOrbit, exponentOf}
 use Rattle.sequences.specs.Occurrences.{low, AllIndices, Alone, Recurring}
 use Rattle.generator.specs.declared.Generator.{Generator}
 use Rattle.generator.specs.Recurrence.{modulus, element}
-use Rattle.generator.specs.Refusals.{numberOf, orElse, refusalOf}
+use Rattle.refusals.specs.Refusals.{numberOf, orElse}
+use Rattle.generator.specs.Check.{refusalOf}
 use Rattle.orbits.specs.declared.IndexReply.{IndexReply}
 use Rattle.orbits.specs.declared.PlacesAnswer.{PlacesAnswer}
 use Rattle.orbits.specs.declared.PlacesAnswer.the-variants as answer
 use Rattle.orbits.specs.declared.PlacesReply.{PlacesReply}
 use Rattle.orbits.specs.declared.kinds.Occurrences.{Occurrences}
 use Rattle.orbits.specs.declared.kinds.Occurrences.the-variants as occurrences
-use Rattle.orbits.specs.Orbit.{exponentOf}
 use Rattle.orbits.specs.Index.{IndexPromise}
 
 -- 9: no places, or more than the width has; at width 0 every number of them.

@@ -3,7 +3,7 @@
 ghost use mathlib.Core.Path.{_≡_};
 ghost use Prim.Native.Nat.{_%_, _≤_};
 ghost use Rattle.generator.specs.Recurrence.{modulus, element};
-ghost use Rattle.generator.specs.Refusals.{refusalOf};
+ghost use Rattle.generator.specs.Check.{refusalOf};
 ghost use Rattle.orbits.specs.Gap.{SightingIs};
 ghost use Rattle.orbits.specs.Index.{PositionIs};
 ghost use Rattle.orbits.specs.Orbit.{IsCycle};

@@ -2,19 +2,19 @@
 // the low places; and for odd multipliers the steps between two numbers. No search makes more than n + 1 rounds, n the width, and
 // at width 0 none makes more than 539 comparisons with a root of unity.
 ghost use mathlib.Core.Path.{_≡_};
-ghost use Rattle.generator.specs.Refusals.{checkNumber};
+ghost use Rattle.refusals.specs.Refusals.{checkNumber};
 ghost use Rattle.orbits.specs.Orbit.{OrbitPromise, orbitOf};
 ghost use Rattle.orbits.specs.Index.{IndexPromise, replyOf};
 ghost use Rattle.orbits.specs.Gap.{GapPromise, oddRefusal, gapRefusal, gapOf};
 ghost use Rattle.orbits.specs.Places.{PlacesPromise, rangeRefusal, placesRefusal, placesOf};
-use generator::Check;
 use generator::Generator;
-use generator::Refusal;
 use generator::checked;
-use generator::checks::or_else;
 use kinds::Occurrences;
 use kinds::Position;
 use kinds::Sighting;
+use refusals::Check;
+use refusals::Refusal;
+use refusals::or_else;
 
 pub mod kinds;
 pub mod linear;

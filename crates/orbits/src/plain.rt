@@ -12,7 +12,7 @@ use crate::OrbitAnswer;
 use crate::OrbitReply;
 use crate::PlacesAnswer;
 use crate::PlacesReply;
-use generator::refusal_number::number;
+use refusals::number;
 
 pub fn of_orbit(answer: OrbitAnswer) -> OrbitReply
     ensures { λ r. ⌜ r ≡ orbitOf answer ⌝ }

@@ -3,9 +3,9 @@ ghost use mathlib.Core.Path.{_≡_};
 ghost use Rattle.lines.specs.Run.{runRefusal};
 ghost use Rattle.lines.specs.ReadLine.{replyOf, runReply};
 use generator::Generator;
-use generator::ValueAnswer;
 use lines::Run;
 use lines::RunAnswer;
+use refusals::ValueAnswer;
 
 // The run again, or its refusal.
 fn round_trip(run: Run) -> RunAnswer

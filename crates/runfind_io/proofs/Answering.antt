@@ -1,6 +1,5 @@
 -- The outcome of a lookup, by the plain numbers of its reply.
 use mathlib.Core.Path.{_≡_}
-use Prim.Native.Nat.{ℕ}
 use borrow.Author.Tests.{eq-eqb, ne-eqb}
 use Rattle.archive.specs.declared.LookupReply.{LookupReply}
 use Rattle.archive_io.specs.declared.notice.Notice.the-variants.{NotFound, Refused}

@@ -5,9 +5,9 @@ use Prim.Native.Nat.{ℕ, suc, _≤_, _<_}
 use native.Mathlib.Omega.{arith}
 use lib.ListN.{length}
 use borrow.Author.Tests.{eq-eqb, ne-eqb, lt-ltb, le-ltb}
-use Rattle.generator.specs.declared.Refusal.{Refusal}
-use Rattle.generator.specs.Refusals.{numberOf}
-use Rattle.generator.proofs.Replies.{number-suc}
+use Rattle.refusals.specs.declared.Refusal.{Refusal}
+use Rattle.refusals.specs.Refusals.{numberOf}
+use Rattle.refusals.proofs.Replies.{number-suc}
 use Rattle.lines.specs.declared.Run.{Run}
 use Rattle.lines.specs.declared.RunAnswer.{RunAnswer}
 use Rattle.lines.specs.declared.RunAnswer.the-variants as reading

@@ -5,12 +5,12 @@ use Prim.Native.Nat.{ℕ, zero, suc, _+_, _*_, _^_, _≤_, _<_, min}
 use native.Mathlib.Omega.{arith}
 use lib.ListN.{length, getD, take, drop, length-append, length-drop, length-take}
 use lib.Seq.{take-append-le, getD-take}
-use Rattle.generator.specs.declared.Refusal.{Refusal}
-use Rattle.generator.specs.declared.ValueAnswer.{ValueAnswer}
-use Rattle.generator.specs.declared.ValueAnswer.the-variants.{Value, Refused}
-use Rattle.generator.specs.declared.ValueReply.{ValueReply}
-use Rattle.generator.specs.Replies.{valueOf, valueReply}
-use Rattle.generator.proofs.Replies.{number-suc}
+use Rattle.refusals.specs.declared.Refusal.{Refusal}
+use Rattle.refusals.specs.declared.ValueAnswer.{ValueAnswer}
+use Rattle.refusals.specs.declared.ValueAnswer.the-variants.{Value, Refused}
+use Rattle.refusals.specs.declared.ValueReply.{ValueReply}
+use Rattle.refusals.specs.Replies.{plainValue, valueReply}
+use Rattle.refusals.proofs.Replies.{number-suc}
 use Rattle.fields.specs.Codec.{FrontWritten}
 use Rattle.lines.specs.declared.Run.{Run}
 use Rattle.lines.specs.Run.{shows, runRefusal}
@@ -39,7 +39,7 @@ refusal-is zero v e = ap (λ (r : ValueReply). r .refusal) e
 refusal-is (suc n) v e = ap (λ (r : ValueReply). r .refusal) e
 
 module _ {run : Run} {p : ℕ} {before numbers : List ℕ} {answer : ValueAnswer}
-    (r : RemakePromise run p before numbers (valueOf answer)) where
+    (r : RemakePromise run p before numbers (plainValue answer)) where
   -- a run that is refused
   pub chunk-none : {x : Refusal} → answer ≡ Refused x → (left : ℕ) (buf : List ℕ) →
       ChunkPromise run p left (length before) buf buf (record { made = 0; bytes = 0 })
@@ -47,18 +47,18 @@ module _ {run : Run} {p : ℕ} {before numbers : List ℕ} {answer : ValueAnswer
   chunk-none {x} e left buf =
       let k = number-suc x in
       let n : runRefusal run ≡ suc (k .0) =
-      sym (refusal-is (runRefusal run) _ (r .equals)) ∙ ap (λ (a : ValueAnswer). valueOf a .refusal) e ∙ k .1 in
+      sym (refusal-is (runRefusal run) _ (r .equals)) ∙ ap (λ (a : ValueAnswer). plainValue a .refusal) e ∙ k .1 in
       record { count = rw n; written = record { whole = refl; count = refl } }
 
   module _ {n : ℕ} (e : answer ≡ Value n) where
     zero-refusal : runRefusal run ≡ 0
-    zero-refusal = sym (refusal-is (runRefusal run) _ (r .equals)) ∙ ap (λ (a : ValueAnswer). valueOf a .refusal) e
+    zero-refusal = sym (refusal-is (runRefusal run) _ (r .equals)) ∙ ap (λ (a : ValueAnswer). plainValue a .refusal) e
 
     count-is : n ≡ remadeCount run p (length before)
     count-is =
-        let same : valueOf (Value n) ≡ valueReply (runRefusal run) (remadeCount run p (length before)) =
-        ap (λ (a : ValueAnswer). valueOf a) (sym e) ∙ r .equals in
-        let plain : valueOf (Value n) ≡ valueReply 0 (remadeCount run p (length before)) = rw zero-refusal at same in
+        let same : plainValue (Value n) ≡ valueReply (runRefusal run) (remadeCount run p (length before)) =
+        ap (λ (a : ValueAnswer). plainValue a) (sym e) ∙ r .equals in
+        let plain : plainValue (Value n) ≡ valueReply 0 (remadeCount run p (length before)) = rw zero-refusal at same in
         ap (λ (v : ValueReply). v .value) plain
 
     buffer-is : numbers ≡ shownFrom run p n ++ drop n before

@@ -2,10 +2,11 @@
 ghost use mathlib.Core.Path.{_≡_};
 ghost use Rattle.runshow_io.specs.Decision.{outcomeOf, partOf};
 use archive::ArchiveCheck;
+use archive::Part;
 use archive_io::notice::Notice;
-use generator::refusal_number::number;
 use lines::Run;
 use lines::RunAnswer;
+use refusals::number;
 
 pub enum Outcome {
     // A run, a position below its count, and how many numbers are asked for, at least one.

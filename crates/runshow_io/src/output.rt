@@ -8,9 +8,9 @@ use archive_io::notice::Notice;
 use archive_io::notice::print;
 use archive_io::notice::write_notice;
 use fields::field::write_field;
-use generator::ValueAnswer;
 use lines::Run;
 use lines::filling::fitting;
+use refusals::ValueAnswer;
 
 // Writes the numbers to the front of a buffer, each with byte 10 behind it, and gives the number of bytes.
 pub fn write_numbers(buf: &mut [u8], numbers: &[u64]) -> usize

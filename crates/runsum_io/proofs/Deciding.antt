@@ -6,9 +6,9 @@ use Prim.Native.Nat.{ℕ, suc, _≤_, _<_}
 use native.Mathlib.Omega.{arith}
 use lib.ListN.{length}
 use Rattle.fields.specs.Codec.{FrontWritten}
-use Rattle.generator.specs.declared.Refusal.{Refusal}
-use Rattle.generator.specs.Refusals.{numberOf}
-use Rattle.generator.proofs.Replies.{number-suc}
+use Rattle.refusals.specs.declared.Refusal.{Refusal}
+use Rattle.refusals.specs.Refusals.{numberOf}
+use Rattle.refusals.proofs.Replies.{number-suc}
 use Rattle.archive.specs.declared.SummaryAnswer.{SummaryAnswer}
 use Rattle.archive.specs.declared.SummaryAnswer.the-variants as summary
 use Rattle.archive.specs.declared.SummaryReply.{SummaryReply}

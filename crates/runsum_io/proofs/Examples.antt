@@ -6,7 +6,7 @@ use Rattle.sequences.specs.Index.{indexOf}
 use Rattle.sequences.specs.Gap.{occurs}
 use Rattle.sequences.specs.Distinct.{countOf, isNew, distinctOf}
 use Rattle.generator.specs.Recurrence.{modulus, step, element}
-use Rattle.generator.specs.Refusals.{refusalOf}
+use Rattle.generator.specs.Check.{refusalOf}
 use Rattle.fields.specs.Ascii.{ascii}
 use Rattle.fields.specs.Digits.{lastDigits, digitsOf}
 use Rattle.fields.specs.Line.{fieldsLine, numbersFrom, isLine}

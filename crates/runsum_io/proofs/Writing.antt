@@ -7,9 +7,9 @@ use Prim.Native.Nat.{ℕ, suc, _+_, _-_, _≤_, _<_}
 use native.Mathlib.Omega.{arith}
 use lib.ListN.{length, take, drop, length-append}
 use Rattle.fields.specs.Codec.{FrontWritten}
-use Rattle.generator.specs.declared.ValueAnswer.{ValueAnswer}
-use Rattle.generator.specs.declared.ValueReply.{ValueReply}
-use Rattle.generator.specs.Replies.{valueReply, valueOf}
+use Rattle.refusals.specs.declared.ValueAnswer.{ValueAnswer}
+use Rattle.refusals.specs.declared.ValueReply.{ValueReply}
+use Rattle.refusals.specs.Replies.{valueReply, plainValue}
 use Rattle.lines.specs.declared.Run.{Run}
 use Rattle.lines.specs.Run.{runRefusal}
 use Rattle.lines.specs.ReadLine.{runIn}
@@ -30,7 +30,7 @@ runs-first k run runs = refl
 
 -- the variety of an accepted run
 pub variety-is : {run : Run} {reply : ValueReply} (answer : ValueAnswer) → runRefusal run ≡ 0 →
-    VarietyPromise run (valueOf answer) → reply ≡ valueOf answer → reply .value ≡ varietyOf run
+    VarietyPromise run (plainValue answer) → reply ≡ plainValue answer → reply .value ≡ varietyOf run
 variety-is {run} answer z p e =
     ap (λ (r : ValueReply). r .value) (e ∙ p .equals ∙ ap (λ (n : ℕ). valueReply n (varietyOf run)) z)
 

@@ -10,7 +10,7 @@ use archive_io::input::Rest;
 use archive_io::notice::Notice;
 use archive_io::notice::print;
 use archive_io::notice::write_notice;
-use generator::refusal_number::number;
+use refusals::number;
 
 // Prints it in one piece.
 pub fn print_output(archive: &[u8], beyond: Rest)

@@ -11,8 +11,8 @@ ghost use Rattle.runsum_io.specs.Text.{runText, runsText, totalText, sum
 use archive::parts::next_run;
 use archive_io::notice::write_word;
 use fields::line;
-use generator::plain::of_value;
 use lines::Run;
+use refusals::of_value;
 
 // The line of an accepted run: its number, count and variety.
 fn write_run(buf: &mut [u8], number: u64, run: Run) -> usize

@@ -9,16 +9,7 @@ use native.Mathlib.Decide.{ℕ-discrete, map-dec}
 use native.Mathlib.Numerals.{one-add}
 use native.Mathlib.Omega.{arith}
 use lib.Pow.{mod-pow-add, pow-pos}
-use Rattle.words.proofs.Congruence.{
-  Congruent,
-  from-multiples,
-  to-multiples,
-  same-sym,
-  same-trans,
-  same-of-eq,
-  same-lower,
-  same-below,
-}
+use Rattle.words.proofs.Congruence.{from-multiples, same-sym, same-trans, same-of-eq, same-lower, same-below}
 pub use Rattle.sequences.specs.Places.{Agree}
 
 -- equal numbers agree in any number of places, and so does each with itself

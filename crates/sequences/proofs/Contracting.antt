@@ -4,7 +4,7 @@
 -- is where x first rests, and the period is 1.
 -- Where each step adds exactly v places, as multiplication by 2 ^ v times an odd number does, the neighbours
 -- that first differ at place w first differ at w + i * v after i steps, and x rests as soon as that reaches n.
-use mathlib.Core.Path.{_≡_, sym, ap, _∙_}
+use mathlib.Core.Path.{_≡_, ap, _∙_}
 use mathlib.Core.Bool.{Bool}
 use mathlib.Core.Logic.{_↔_, by-cases}
 use Prim.Native.Nat.{ℕ, zero, suc, _+_, _-_, _*_, _/_, _≤_, _<_, suc-le-suc}

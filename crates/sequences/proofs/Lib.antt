@@ -11,3 +11,4 @@ pub mod Contracting
 pub mod LowPlaces
 pub mod Occurrences
 pub mod Distinct
+pub mod Table

@@ -3,15 +3,16 @@
 -- index below t + P, and from any index s on the sequence has the same period and what is left of the preperiod.
 -- And the definitions of preperiod and period find the orbit wherever it lies below their bound, and that of the first
 -- return finds P at every index from t on.
+use lib.Pow.{pow-lt}
 use mathlib.Core.Path.{_≡_, refl, sym, ap, _∙_}
 use mathlib.Core.Logic.{_↔_, _⊎_, inl, inr, ⊎-elim, by-cases}
-use Prim.Native.Nat.{ℕ, zero, suc, _+_, _-_, _*_, _/_, _%_, _≤_, _<_}
+use Prim.Native.Nat.{ℕ, zero, suc, _+_, _-_, _*_, _/_, _%_, _≤_, _<_, _^_}
 use native.Mathlib.Nat.{add-zero, add-suc, le-refl, le-trans, div-add-mod', mod-lt}
 use native.Mathlib.Decide.{ℕ-discrete, decLe, decLt}
 use native.Mathlib.Omega.{arith}
 use borrow.Author.Tests.{eq-eqb, ne-eqb, lt-ltb, le-ltb}
 use Rattle.words.proofs.Congruence.{Congruent, from-multiples, to-multiples, same-sym, same-below}
-use Rattle.sequences.specs.Orbit.{returnOf, preperiodOf, periodOf, IsOrbit}
+use Rattle.sequences.specs.Orbit.{returnOf, preperiodOf, periodOf, IsOrbit, exponentOf}
 use Rattle.sequences.proofs.Least.{least-unique}
 
 -- equal elements have equal successors
@@ -200,3 +201,13 @@ module _ {x : ℕ → ℕ} {t P bound : ℕ} (o : IsOrbit x t P) (within : t + P
   pub period-is : periodOf x bound ≡ P
   unfolding periodOf
   period-is = rw (preperiod-is, return-is) (omega (arith, o .positive))
+
+pub exponent-is : (e : ℕ) → e ≤ 64 → exponentOf (2 ^ e) ≡ e
+unfolding exponentOf
+exponent-is e l =
+    least-unique
+    (record {
+      within = omega arith;
+      holds = λ h. eq-eqb (2 ^ e) (2 ^ e) refl;
+      first = λ j h. ne-eqb (2 ^ j) (2 ^ e) (λ q. omega (arith, pow-lt h));
+    })

@@ -1,7 +1,7 @@
 -- The orbit of a sequence of numbers: preperiod (document 01: run-in) and period (document 01: cycle length; SCOPE 3.2).
 -- The definitions search below a bound; the record says what they find without one.
 use mathlib.Core.Path.{_≡_}
-use Prim.Native.Nat.{ℕ, suc, _+_, _≤_, _<_}
+use Prim.Native.Nat.{ℕ, suc, _+_, _^_, _≤_, _<_}
 use lib.Dec.{eqb, ltb}
 use Rattle.sequences.specs.Least.{least}
 
@@ -23,3 +23,7 @@ pub record IsOrbit (x : ℕ → ℕ) (t P : ℕ) : Type 0 where
   pub returns : x (t + P) ≡ x t
   pub shortest : (d : ℕ) → 1 ≤ d → x (t + d) ≡ x t → P ≤ d
   pub first : (i j : ℕ) → i < t → i < j → x j ≡ x i → ⊥
+
+-- The exponent of a power of two, 0 to 64.
+unfoldable pub exponentOf : ℕ → ℕ
+exponentOf p = least (λ e. eqb (2 ^ e) p) 65

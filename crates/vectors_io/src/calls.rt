@@ -8,14 +8,14 @@ use crate::numbers::Bytes;
 use crate::numbers::read_bytes;
 use crate::replies::Reply;
 use generator::Generator;
-use generator::ValueAnswer;
-use generator::plain::of_value;
 use lines::Run;
 use lines::plain::of_run;
 use orbits::plain::of_gap;
 use orbits::plain::of_index;
 use orbits::plain::of_orbit;
 use orbits::plain::of_places;
+use refusals::ValueAnswer;
+use refusals::of_value;
 
 // The reply to a call. A call with too few or too many numbers is none.
 pub fn reply(letter: u8, n: &[u64]) -> Reply {
@@ -42,7 +42,7 @@ fn customary_multiplier(n: &[u64]) -> Reply {
     if n.len() != 1 {
         return Reply::Unreadable;
     }
-    of_one(generator::customary_multiplier(n[0]))
+    of_one(customary::customary_multiplier(n[0]))
 }
 
 fn element(n: &[u64]) -> Reply {
@@ -103,7 +103,7 @@ fn predecessor(n: &[u64]) -> Reply {
     if n.len() != 5 {
         return Reply::Unreadable;
     }
-    of_one(generator::predecessor(generator_of(n), n[4]))
+    of_one(predecessors::predecessor(generator_of(n), n[4]))
 }
 
 fn read_line(n: &[u64]) -> Reply {

@@ -1,7 +1,7 @@
 -- `generator::checked` meets its contract: the width tells the kind, and its module has the conditions on the operands.
 use borrow.Author.Needs.{needs}
 use borrow.Author.Tests.{lt-ltb}
-use Rattle.generator.specs.Refusals.{refusalOf}
+use Rattle.generator.specs.Check.{refusalOf}
 use Rattle.generator.proofs.checked.Statement.{statement}
 use Rattle.generator.proofs.checked.Tie as tie
 

@@ -1,6 +1,6 @@
 -- `generator::element` meets its contract.
 use borrow.Author.Needs.{needs}
-use Rattle.generator.proofs.Replies.{number-accepted, number-refused, value-refused, value-given}
+use Rattle.refusals.proofs.Replies.{number-accepted, number-refused, value-refused, value-given}
 use Rattle.generator.proofs.element.Statement.{statement}
 use Rattle.generator.proofs.element.Tie as tie
 

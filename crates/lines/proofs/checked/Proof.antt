@@ -3,8 +3,8 @@ use borrow.Author.Needs.{needs}
 use mathlib.Core.Path.{_≡_}
 use native.Mathlib.Omega.{arith}
 use borrow.Author.Tests.{eq-eqb, ne-eqb, le-leb, lt-leb}
-use Rattle.generator.specs.Refusals.{refusalOf}
-use Rattle.generator.proofs.Replies.{number-accepted, refused-first}
+use Rattle.generator.specs.Check.{refusalOf}
+use Rattle.refusals.proofs.Replies.{number-accepted, refused-first}
 use Rattle.lines.specs.Run.{runRefusal}
 use Rattle.lines.proofs.Runs.{sum-high, sum-low}
 use Rattle.lines.proofs.checked.Statement.{statement}

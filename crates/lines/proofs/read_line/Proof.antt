@@ -1,6 +1,6 @@
 -- `lines::read_line` meets its contract.
 use mathlib.Core.Path.{refl}
-use Rattle.generator.proofs.Replies.{number-accepted, number-refused}
+use Rattle.refusals.proofs.Replies.{number-accepted, number-refused}
 use Rattle.lines.proofs.Reading.{read-malformed, read-refused, read-accepted}
 use borrow.Author.Needs.{needs}
 use borrow.Author.Tests.{not-true, not-false}

@@ -2,7 +2,7 @@
 use mathlib.Core.Path.{_≡_}
 use native.Mathlib.Omega.{arith}
 use borrow.Author.Needs.{needs}
-use Rattle.generator.proofs.Replies.{number-accepted, number-refused}
+use Rattle.refusals.proofs.Replies.{number-accepted, number-refused}
 use Rattle.lines.specs.Run.{runRefusal}
 use Rattle.lines.proofs.Runs.{valid-run}
 use Rattle.lines.proofs.Remaking.{remake-refused, remake-none, remake-done}

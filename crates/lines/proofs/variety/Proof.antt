@@ -1,7 +1,7 @@
 -- `lines::variety` meets its contract: how many different values the run has is read off the generator's orbit.
 use borrow.Author.Needs.{needs}
 use mathlib.Core.Path.{_≡_}
-use Rattle.generator.proofs.Replies.{number-accepted, number-refused}
+use Rattle.refusals.proofs.Replies.{number-accepted, number-refused}
 use Rattle.lines.specs.Run.{runRefusal}
 use Rattle.lines.proofs.Runs.{valid-run, variety-refused, variety-given}
 use Rattle.lines.proofs.variety.Statement.{statement}

@@ -1,6 +1,6 @@
 -- `lines::write_line` meets its contract.
 use mathlib.Core.Path.{_≡_}
-use Rattle.generator.proofs.Replies.{number-accepted, number-refused, refused-else}
+use Rattle.refusals.proofs.Replies.{number-accepted, number-refused, refused-else}
 use Rattle.lines.specs.Run.{runRefusal}
 use Rattle.lines.specs.WriteLine.{writeRefusal}
 use Rattle.lines.proofs.Written.{write-refused, write-short, write-done}

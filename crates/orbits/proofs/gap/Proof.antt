@@ -3,7 +3,7 @@ use borrow.Author.Needs.{needs}
 use mathlib.Core.Path.{_≡_, subst}
 use mathlib.Core.Logic.{inl, inr}
 use native.Mathlib.Omega.{arith}
-use Rattle.generator.proofs.Replies.{number-accepted, number-refused}
+use Rattle.refusals.proofs.Replies.{number-accepted, number-refused}
 use Rattle.orbits.specs.declared.kinds.Sighting.the-variants as sighting
 use Rattle.orbits.specs.Gap.{gapRefusal, SightingIs}
 use Rattle.orbits.proofs.Gaps.{gap-accepted, gap-refused, gap-missing, gap-counted, same-cycle}

@@ -1,9 +1,9 @@
 -- `orbits::index` meets its contract.
 use borrow.Author.Needs.{needs}
 use mathlib.Core.Path.{_≡_, subst}
-use Rattle.generator.specs.Refusals.{refusalOf}
+use Rattle.generator.specs.Check.{refusalOf}
 use Rattle.orbits.specs.Index.{PositionIs}
-use Rattle.generator.proofs.Replies.{number-accepted, number-refused}
+use Rattle.refusals.proofs.Replies.{number-accepted, number-refused}
 use Rattle.orbits.proofs.Indices.{index-refused, index-found, index-never}
 use Rattle.orbits.proofs.index.Statement.{statement}
 use Rattle.orbits.proofs.index.Tie as tie

@@ -1,7 +1,7 @@
 -- `orbits::index_places` meets its contract.
 use borrow.Author.Needs.{needs}
 use mathlib.Core.Path.{_≡_, subst}
-use Rattle.generator.proofs.Replies.{number-accepted, number-refused}
+use Rattle.refusals.proofs.Replies.{number-accepted, number-refused}
 use Rattle.orbits.specs.Places.{placesRefusal, OccurrencesIs}
 use Rattle.orbits.proofs.Places.{places-accepted, places-refused, places-once, places-every, places-never}
 use Rattle.orbits.proofs.index_places.Statement.{statement}

@@ -2,9 +2,9 @@
 use borrow.Author.Needs.{needs}
 use mathlib.Core.Path.{_≡_}
 use native.Mathlib.Omega.{arith}
-use Rattle.generator.specs.Refusals.{refusalOf}
+use Rattle.generator.specs.Check.{refusalOf}
 use Rattle.generator.proofs.Refusals.{linear, prime}
-use Rattle.generator.proofs.Replies.{number-accepted, number-refused}
+use Rattle.refusals.proofs.Replies.{number-accepted, number-refused}
 use Rattle.orbits.proofs.Orbits.{orbit-refused, orbit-even, orbit-odd, orbit-prime}
 use Rattle.orbits.proofs.orbit.Statement.{statement}
 use Rattle.orbits.proofs.orbit.Tie as tie

@@ -3,8 +3,8 @@ use borrow.Author.Needs.{needs}
 use mathlib.Core.Path.{_≡_, sym, ap, _∙_}
 use borrow.Author.Tests.{eq-eqb}
 use Rattle.generator.specs.Recurrence.{modulus}
-use Rattle.generator.specs.Refusals.{refusalOf}
-use Rattle.generator.proofs.Replies.{number-nonzero}
+use Rattle.generator.specs.Check.{refusalOf}
+use Rattle.refusals.proofs.Replies.{number-nonzero}
 use Rattle.lines.specs.declared.Run.{Run}
 use Rattle.lines.specs.Run.{runRefusal}
 use Rattle.lines.specs.declared.RunReply.{RunReply}

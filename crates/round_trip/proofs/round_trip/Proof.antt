@@ -4,8 +4,8 @@ use mathlib.Core.Path.{sym}
 use native.Mathlib.Omega.{arith}
 use lib.ListN.{replicate}
 use lib.Seq.{length-take-le}
-use Rattle.generator.specs.declared.ValueAnswer.the-variants.{Value, Refused}
-use Rattle.generator.specs.Replies.{valueOf}
+use Rattle.refusals.specs.declared.ValueAnswer.the-variants.{Value, Refused}
+use Rattle.refusals.specs.Replies.{plainValue}
 use Rattle.lines.specs.WriteLine.{WritePromise}
 use Rattle.lines.proofs.RoundTrip.{write-as, write-refusal, written-fits, written-back}
 use Rattle.round_trip.proofs.round_trip.Statement.{statement}
@@ -26,7 +26,7 @@ enum-known-answer-2 c = search needs
 -- the promise of the call that wrote
 wrote : (c : tie.After-known-told2) →
     WritePromise (c .before .before .before .before .before .before .args .run) (replicate 107 0) (c .before .before .before .before .write-line .last .1 .0)
-    (valueOf (Value (c .before .answer2 .given .0 .0)))
+    (plainValue (Value (c .before .answer2 .given .0 .0)))
 wrote c = write-as (Value _) (c .before .answer2 .given .1) (c .before .before .before .before .write-line .ensures)
 
 array-share-prefix-buffer : tie.Need-array-share-prefix-buffer

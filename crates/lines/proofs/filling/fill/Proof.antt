@@ -1,7 +1,6 @@
 -- `lines::filling::fill` meets its contract. The loop's invariant: k numbers stand at the buffer's front, and `number` is the
 -- one that comes next.
 use Prim.Native.Nat.{_-_, _≤_}
-use native.Mathlib.Omega.{arith}
 use borrow.Author.Needs.{needs}
 use Rattle.lines.specs.Run.{shows}
 use Rattle.lines.proofs.Remaking.{RemadeSoFar, is-element, remake-start, remake-next, remake-end}

@@ -1,5 +1,4 @@
 -- `orbits::linear::exponent` meets its contract: the orbit is read off the search for the seed.
-use borrow.Author.Needs.{needs}
 use native.Mathlib.Nat.{le-refl}
 use Rattle.sequences.proofs.Search.{settles-orbit, settles-first}
 use Rattle.generator.proofs.Elements.{element-start}

@@ -1,0 +1,3 @@
+-- The rule of the table, and examples.
+mod OddPowers
+mod Examples

@@ -1,0 +1,3 @@
+-- That a step can be undone, and examples.
+mod StepBack
+mod Examples

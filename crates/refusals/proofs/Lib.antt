@@ -1,0 +1,3 @@
+-- Laws of refusals, for the crates above.
+pub mod Conditions
+pub mod Replies

@@ -1,0 +1,2 @@
+-- The theorem about the rows.
+pub mod WorkedRuns

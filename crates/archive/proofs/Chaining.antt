@@ -15,7 +15,7 @@ use Rattle.fields.proofs.Numbers.{same-test, fields-long}
 use Rattle.chains.specs.Hash.{slotOf}
 use Rattle.chains.specs.Chains.{stands, standsAmong, Tables, Seen}
 use Rattle.chains.proofs.Linking.{seen-tables, seen-own, seen-other, zeros-tables, zeros-none}
-use Rattle.lines.specs.declared.Run.{Run}
+use Rattle.runs.specs.declared.Run.{Run}
 use Rattle.lines.specs.Line.{numbersOf, lineOf}
 use Rattle.lines.proofs.Reading.{line-run}
 use Rattle.archive.specs.Check.{isAmong}
@@ -36,8 +36,8 @@ line-size bytes {at} {end} run l h e =
     omega (arith, size, ap length e)
 
 -- bytes that start with the line of a run have it as their first line
-starts : (bytes : List ℕ) (run : Run) → take (length (lineOf run)) bytes ≡ lineOf run → firstPart bytes ≡ lineOf run
-starts bytes run e =
+line-starts : (bytes : List ℕ) (run : Run) → take (length (lineOf run)) bytes ≡ lineOf run → firstPart bytes ≡ lineOf run
+line-starts bytes run e =
     let rest = drop (length (lineOf run)) bytes in
     ap firstPart (sym (take-append-drop (length (lineOf run)) bytes) ∙ ap (λ (l : List ℕ). l ++ rest) e) ∙ part-line run rest
 
@@ -69,7 +69,7 @@ module _ {bytes : List ℕ} {at end slot : ℕ} {head next head' next' : List �
       first : firstPart (drop at bytes) ≡ line
       first =
           let n : length (lineOf run) ≡ end - at = omega (arith, size) in
-          starts (drop at bytes) run (ap (λ (k : ℕ). take k (drop at bytes)) n ∙ read) ∙ sym read
+          line-starts (drop at bytes) run (ap (λ (k : ℕ). take k (drop at bytes)) n ∙ read) ∙ sym read
 
       go : (b : Bool) → sameBytes line (lineOf other) ≡ b → sameBytes line (lineOf other) ≡ stands bytes (lineOf other) at
       go true t =
@@ -78,7 +78,7 @@ module _ {bytes : List ℕ} {at end slot : ℕ} {head next head' next' : List �
           ap (λ (k : ℕ). sameBytes (take k (drop at bytes)) (lineOf other)) n
       go false f =
           f ∙ sym
-          (other-lines (λ e. contrary (same-lines (sym first ∙ starts (drop at bytes) other e)) f))
+          (other-lines (λ e. contrary (same-lines (sym first ∙ line-starts (drop at bytes) other e)) f))
 
   module _ {before : List (List ℕ)} (c : Chained bytes at head next before) where
     tables : Tables bytes end head' next'

@@ -9,22 +9,17 @@ use mathlib.Core.List.{List, [], _∷_, _++_, map}
 use Prim.Native.Nat.{ℕ, zero, suc, _+_, _-_, _≤_, _<_}
 use native.Mathlib.Decide.{ℕ-discrete, decLt}
 use native.Mathlib.Omega.{arith}
-use lib.ListN.{length, take, drop}
+use lib.ListN.{length}
 use borrow.Author.Tests.{lt-ltb, le-ltb}
-use Rattle.refusals.specs.declared.Refusal.{Refusal}
-use Rattle.refusals.specs.Refusals.{numberOf}
-use Rattle.refusals.proofs.Replies.{number-nonzero}
-use Rattle.lines.specs.declared.Run.{Run}
+use Rattle.runs.specs.declared.Run.{Run}
 use Rattle.lines.specs.Line.{lineOf}
-use Rattle.lines.specs.declared.RunReply.{RunReply}
-use Rattle.lines.specs.ReadLine.{ReadPromise, acceptedRun, refusedRun, runIn, readOf}
+use Rattle.lines.specs.ReadLine.{runIn, readOf}
 use Rattle.lines.proofs.Reading.{accepted-line, own-run, own-accepted}
 use Rattle.archive.specs.declared.ArchiveCheck.{ArchiveCheck}
-use Rattle.archive.specs.Archive.{linesOf, runsIn, archiveOf, AllAccepted, IsArchive}
-use Rattle.archive.specs.Check.{CheckReply, refusedAt, checkReply, isAmong, lineRefusal, firstRefused, checkOf, Accepts, CheckPromise}
-use Rattle.archive.specs.Parts.{firstPart}
+use Rattle.archive.specs.declared.ArchiveCheck.the-variants.{Accepted}
+use Rattle.archive.specs.Archive.{linesOf, runsIn, archiveOf, AllAccepted, IsArchive, numbered}
+use Rattle.archive.specs.Check.{CheckReply, refusedAt, plainCheck, isAmong, lineRefusal, firstRefused, checkOf, Accepts, CheckPromise}
 use Rattle.archive.proofs.Splitting.{joined, lines-joined, lines-archive}
-use Rattle.archive.proofs.Folding.{Fold, fold-line, fold-next}
 use Rattle.archive.proofs.Twins.{Fresh, fresh-distinct, distinct-fresh}
 
 -- The first line that `read_line` refuses.
@@ -48,18 +43,32 @@ unread-here k line lines d = go (readOf line .refusal) refl
     go zero e = absurd (d e)
     go (suc n) e = rw (e, firstUnread)
 
--- where none is refused, the lines are those of the runs in them
+-- where none is refused, neither is the first, nor any behind it
+first-read : (k : ℕ) (line : List ℕ) (lines : List (List ℕ)) → firstUnread k (line ∷ lines) .refusal ≡ 0 →
+    (readOf line .refusal ≡ 0) × (firstUnread (suc k) lines .refusal ≡ 0)
+first-read k line lines e =
+    by-cases (ℕ-discrete (readOf line .refusal) 0)
+    (λ z. (z, sym (ap (λ (c : CheckReply). c .refusal) (unread-next k line lines z)) ∙ e))
+    (λ d. absurd (d (sym (ap (λ (c : CheckReply). c .refusal) (unread-here k line lines d)) ∙ e)))
+
+-- so the lines are those of the runs in them
 none-unread : (k : ℕ) (lines : List (List ℕ)) → firstUnread k lines .refusal ≡ 0 →
     AllAccepted (map runIn lines) × (lines ≡ map lineOf (map runIn lines))
 none-unread k [] e = (tt, refl)
 none-unread k (line ∷ lines) e =
-    let rest = none-unread (suc k) lines in
-    by-cases (ℕ-discrete (readOf line .refusal) 0)
-    (λ z.
-    let a = accepted-line line z in
-    let r = rest (sym (ap (λ (c : CheckReply). c .refusal) (unread-next k line lines z)) ∙ e) in
-    ((a .0, r .0), ap₂ (λ (l : List ℕ) (ls : List (List ℕ)). l ∷ ls) (a .1 .line) (r .1)))
-    (λ d. absurd (d (sym (ap (λ (c : CheckReply). c .refusal) (unread-here k line lines d)) ∙ e)))
+    let f = first-read k line lines e in
+    let a = accepted-line line (f .0) in
+    let r = none-unread (suc k) lines (f .1) in
+    ((a .0, r .0), ap₂ (λ (l : List ℕ) (ls : List (List ℕ)). l ∷ ls) (a .1 .line) (r .1))
+
+-- each that is there is accepted
+numbered-read : (k : ℕ) (lines : List (List ℕ)) (n : ℕ) → firstUnread k lines .refusal ≡ 0 → 0 < length (numbered [] lines n) →
+    readOf (numbered [] lines n) .refusal ≡ 0
+unfolding numbered
+numbered-read k lines zero e l = absurd (omega arith)
+numbered-read k [] (suc n) e l = absurd (omega arith)
+numbered-read k (line ∷ lines) (suc zero) e l = first-read k line lines e .0
+numbered-read k (line ∷ lines) (suc (suc n)) e l = numbered-read (suc k) lines (suc n) (first-read k line lines e .1) l
 
 -- and the lines of accepted runs are accepted
 runs-accepted : (k : ℕ) (runs : List Run) → AllAccepted runs → firstUnread k (map lineOf runs) .refusal ≡ 0
@@ -153,6 +162,11 @@ check-lines bytes z =
     let n = none-refused 1 [] (linesOf bytes) (sym (ap (λ (c : CheckReply). c .refusal) (short-check bytes l)) ∙ z) in
     (l, n .0, n .1))
 
+-- a line of an accepted archive
+pub line-reads : (bytes : List ℕ) (n : ℕ) → checkOf bytes .refusal ≡ 0 → 0 < length (numbered [] (linesOf bytes) n) →
+    readOf (numbered [] (linesOf bytes) n) .refusal ≡ 0
+line-reads bytes n z l = numbered-read 1 (linesOf bytes) n (check-lines bytes z .1) l
+
 -- What the check means.
 pub check-accepts : (bytes : List ℕ) → Accepts bytes (checkOf bytes .refusal)
 check-accepts bytes = record { archive = archive; others = others }
@@ -177,24 +191,13 @@ check-accepts bytes = record { archive = archive; others = others }
         )
 
 -- the promise of an answer that is known
-pub check-as : {bytes : List ℕ} {a : ArchiveCheck} (b : ArchiveCheck) → a ≡ b → CheckPromise bytes (checkReply a) →
-    checkReply b ≡ checkOf bytes
-check-as b e p = ap checkReply (sym e) ∙ p .equals
+pub check-as : {bytes : List ℕ} {a : ArchiveCheck} (b : ArchiveCheck) → a ≡ b → CheckPromise bytes (plainCheck a) →
+    plainCheck b ≡ checkOf bytes
+check-as b e p = ap plainCheck (sym e) ∙ p .equals
+
+pub check-accepted : {bytes : List ℕ} {a : ArchiveCheck} → a ≡ Accepted → CheckPromise bytes (plainCheck a) → checkOf bytes .refusal ≡ 0
+check-accepted e p = ap (λ (r : CheckReply). r .refusal) (sym (check-as Accepted e p))
 
 -- A walk behind the check.
 abbrev pub refusing : ℕ → Unit {0} → List (List ℕ) → CheckReply
 refusing k s lines = firstUnread k lines
-
-module _ {bytes : List ℕ} {at k end : ℕ} (w : Fold refusing tt bytes at k tt) (l : at < length bytes)
-    (e : end ≡ at + length (firstPart (drop at bytes))) where
-  -- a line is read, or refused
-  pub check-next : {run : Run} → ReadPromise (take (end - at) (drop at bytes)) (acceptedRun run) → Fold refusing tt bytes end (k + 1) tt
-  check-next r =
-      fold-next w l e tt (λ lines. unread-next k _ lines (ap (λ (p : RunReply). p .refusal) (sym (r .equals))))
-
-  pub check-here : (x : Refusal) → ReadPromise (take (end - at) (drop at bytes)) (refusedRun (numberOf x)) →
-      firstUnread 1 (linesOf bytes) ≡ refusedAt (numberOf x) k
-  check-here x r =
-      let n : readOf (take (end - at) (drop at bytes)) .refusal ≡ numberOf x =
-      ap (λ (p : RunReply). p .refusal) (sym (r .equals)) in
-      fold-line w l e ∙ unread-here k _ _ (λ z. number-nonzero x (sym n ∙ z)) ∙ ap (λ (m : ℕ). refusedAt m k) n

@@ -2,27 +2,20 @@
 use mathlib.Core.Path.{_≡_, refl}
 use mathlib.Core.List.{List, [], _∷_, _++_, map}
 use Prim.Native.Nat.{ℕ}
-use Rattle.sequences.specs.Least.{least}
-use Rattle.generator.specs.Recurrence.{modulus, step, element}
+use Rattle.generator.specs.Recurrence.{modulus}
 use Rattle.generator.specs.Check.{refusalOf}
 use Rattle.fields.specs.Ascii.{ascii}
-use Rattle.fields.specs.Digits.{lastDigits, digitsOf}
+use Rattle.decimals.specs.Digits.{lastDigits, digitsOf}
 use Rattle.fields.specs.Line.{fieldsLine, numbersFrom, isLine}
-use Rattle.lines.specs.declared.Run.{Run}
-use Rattle.lines.specs.Run.{shows, runRefusal}
+use Rattle.runs.proofs.Examples.{run}
+use Rattle.runs.specs.Run.{runRefusal}
 use Rattle.lines.specs.ReadLine.{readOf}
 use Rattle.archive.specs.declared.Part.{Part}
 use Rattle.archive.specs.Archive.{linesOf, runsIn, archiveOf, numbered}
 use Rattle.archive.specs.Check.{refusedAt, isAmong, firstRefused, checkOf}
-use Rattle.archive.specs.Line.{lineAt, placeFrom, placeOf}
-use Rattle.archive.specs.Lookup.{positionOf, firstShowing, lookupOf, foundAt, foundNone, lookupRefused}
-use Rattle.archive.specs.Summary.{totalOf, summaryGiven, summaryRefused, runsSummary, summaryOf}
+use Rattle.archive.specs.Line.{lineAt, partFrom, partOf}
 
-abbrev run : ℕ → ℕ → ℕ → ℕ → ℕ → ℕ → Run
-run n a c x s l =
-    record { generator = record { width = n; multiplier = a; increment = c; seed = x }; first = s; count = l }
-
-abbrev two : List ℕ
+abbrev pub two : List ℕ
 two = ascii "4,5,3,1,0,16\n10,371,995,73,100,8\n"
 
 -- its lines and its runs; bytes behind the last byte 10 are a line too
@@ -99,72 +92,24 @@ twin-checks :
 unfolding checkOf firstRefused isAmong linesOf readOf isLine numbersFrom fieldsLine digitsOf lastDigits runRefusal refusalOf modulus
 twin-checks = refl
 
--- 5 is at line 1, position 4; 49 at line 2, position 0; 985 and 16 nowhere; nothing in the empty archive
-lookups :
-    lookupOf [] 5 ∷ map (lookupOf two) (5 ∷ 49 ∷ 985 ∷ 16 ∷ [])
-    ≡ foundNone ∷ foundAt 1 4 ∷ foundAt 2 0 ∷ foundNone ∷ foundNone ∷ []
-unfolding lookupOf firstShowing positionOf least shows element step
-    checkOf firstRefused isAmong linesOf readOf isLine numbersFrom fieldsLine digitsOf lastDigits runRefusal refusalOf modulus
-lookups = refl
-
--- 2 lines and 24 numbers; nothing in the empty archive
-summaries : map summaryOf (two ∷ [] ∷ []) ≡ summaryGiven 2 24 ∷ summaryGiven 0 0 ∷ []
-unfolding summaryOf runsSummary totalOf
-    checkOf firstRefused isAmong linesOf readOf isLine numbersFrom fieldsLine digitsOf lastDigits runRefusal refusalOf modulus
-summaries = refl
-
 -- the whole archive is checked first: an equal last line, a bad one, and a run of count 0 in line 1
-abbrev refused : List (List ℕ)
+abbrev pub refused : List (List ℕ)
 refused = (two ++ ascii "4,5,3,1,0,16\n") ∷ (two ++ ascii "4,5,3\n") ∷ ascii "4,5,3,1,0,0\n\n" ∷ []
-
-lookup-refusals : map (λ bytes. lookupOf bytes 5) refused ≡ lookupRefused 11 3 ∷ lookupRefused 2 3 ∷ lookupRefused 5 1 ∷ []
-unfolding lookupOf
-    checkOf firstRefused isAmong linesOf readOf isLine numbersFrom fieldsLine digitsOf lastDigits runRefusal refusalOf modulus
-lookup-refusals = refl
-
-summary-refusals : map summaryOf refused ≡ summaryRefused 11 3 ∷ summaryRefused 2 3 ∷ summaryRefused 5 1 ∷ []
-unfolding summaryOf
-    checkOf firstRefused isAmong linesOf readOf isLine numbersFrom fieldsLine digitsOf lastDigits runRefusal refusalOf modulus
-summary-refusals = refl
-
--- an even multiplier and width 0; a sum of 2^64 − 1, and of 2^64; behind that a bad line or an equal one, which comes first
-abbrev long : List ℕ
-long = ascii "4,5,3,1,0,18446744073709551600\n"
-
-totals :
-    map summaryOf
-    (ascii "4,2,0,1,3,10\n0,16807,0,1,0,3\n"
-    ∷ (long ++ ascii "4,5,3,1,0,15\n")
-    ∷ (long ++ ascii "4,5,3,1,0,16\n")
-    ∷ (long ++ ascii "4,5,3,1,0,16\n65,5,3,1,0,16\n")
-    ∷ (long ++ ascii "4,5,3,1,0,16\n4,5,3,1,0,0\n")
-    ∷ (long ++ long)
-    ∷ [])
-    ≡ summaryGiven 2 13
-    ∷ summaryGiven 2 18446744073709551615
-    ∷ summaryRefused 10 0
-    ∷ summaryRefused 3 3
-    ∷ summaryRefused 5 3
-    ∷ summaryRefused 11 2
-    ∷ []
-unfolding summaryOf runsSummary totalOf
-    checkOf firstRefused isAmong linesOf readOf isLine numbersFrom fieldsLine digitsOf lastDigits runRefusal refusalOf modulus
-totals = refl
 
 abbrev part : ℕ → ℕ → Part
 part start length = record { start = start; length = length }
 
--- the lines by number and by place; of a refused archive none
+-- the lines by number, and their parts; of a refused archive none
 numbers : map (lineAt two) (0 ∷ 1 ∷ 2 ∷ 3 ∷ []) ≡ [] ∷ ascii "4,5,3,1,0,16\n" ∷ ascii "10,371,995,73,100,8\n" ∷ [] ∷ []
 unfolding lineAt numbered
     checkOf firstRefused isAmong linesOf readOf isLine numbersFrom fieldsLine digitsOf lastDigits runRefusal refusalOf modulus
 numbers = refl
 
-places : map (placeOf two) (0 ∷ 1 ∷ 2 ∷ 3 ∷ []) ≡ part 0 0 ∷ part 0 13 ∷ part 13 20 ∷ part 0 0 ∷ []
-unfolding placeOf placeFrom
+parts : map (partOf two) (0 ∷ 1 ∷ 2 ∷ 3 ∷ []) ≡ part 0 0 ∷ part 0 13 ∷ part 13 20 ∷ part 0 0 ∷ []
+unfolding partOf partFrom
     checkOf firstRefused isAmong linesOf readOf isLine numbersFrom fieldsLine digitsOf lastDigits runRefusal refusalOf modulus
-places = refl
+parts = refl
 
-none : map (λ bytes. lineAt bytes 1) ((two ++ ascii "\n") ∷ (two ++ two) ∷ []) ≡ [] ∷ [] ∷ []
+refused-lines : map (λ bytes. lineAt bytes 1) ((two ++ ascii "\n") ∷ (two ++ two) ∷ []) ≡ [] ∷ [] ∷ []
 unfolding lineAt checkOf firstRefused isAmong linesOf readOf isLine numbersFrom fieldsLine digitsOf lastDigits runRefusal refusalOf modulus
-none = refl
+refused-lines = refl

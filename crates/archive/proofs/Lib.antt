@@ -1,4 +1,4 @@
--- The crates above cite `Splitting`, `Folding`, `Checking`, `Runs`, `Demands` and `Summing` too.
+-- The crates above cite `Splitting`, `Folding`, `Checking`, `Runs`, `PartOfLine` and `Examples` too.
 pub mod Splitting
 pub mod Folding
 mod Twins
@@ -6,10 +6,6 @@ mod Chaining
 pub mod Checking
 mod TwinRefusal
 mod LineByLine
-pub mod Finding
-pub mod Looking
 pub mod Runs
-pub mod Demands
-pub mod Placing
-pub mod Summing
-mod Examples
+pub mod PartOfLine
+pub mod Examples

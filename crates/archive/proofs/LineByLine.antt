@@ -1,6 +1,6 @@
 -- The check's loop: a walk over the lines whose state is the lines before. The chains hold these lines, so each line that is
 -- read is told as equal to one of them, or passes.
-use mathlib.Core.Path.{_≡_, refl, sym, ap, _∙_, subst}
+use mathlib.Core.Path.{_≡_, refl, sym, ap, _∙_}
 use mathlib.Core.Bool.{Bool, true, false}
 use mathlib.Core.List.{List, [], _∷_}
 use Prim.Native.Nat.{ℕ, _+_, _-_, _≤_, _<_}
@@ -10,13 +10,11 @@ use Rattle.refusals.specs.declared.Refusal.{Refusal}
 use Rattle.refusals.specs.declared.Refusal.the-variants.{DuplicateLine}
 use Rattle.refusals.specs.Refusals.{numberOf}
 use Rattle.refusals.proofs.Replies.{number-suc}
-use Rattle.lines.specs.declared.Run.{Run}
-use Rattle.lines.specs.declared.RunAnswer.{RunAnswer}
-use Rattle.lines.specs.declared.RunAnswer.the-variants as answered
+use Rattle.runs.specs.declared.Run.{Run}
 use Rattle.lines.specs.declared.RunReply.{RunReply}
-use Rattle.lines.specs.ReadLine.{ReadPromise, acceptedRun, refusedRun, replyOf, readOf}
+use Rattle.lines.specs.ReadLine.{ReadPromise, acceptedRun, refusedRun, readOf}
 use Rattle.archive.specs.declared.ArchiveCheck.the-variants.{Accepted, Refused}
-use Rattle.archive.specs.Check.{refusedAt, checkReply, lineRefusal, firstRefused, CheckPromise}
+use Rattle.archive.specs.Check.{refusedAt, plainCheck, lineRefusal, firstRefused, CheckPromise}
 use Rattle.archive.specs.Parts.{firstPart}
 use Rattle.archive.specs.Chained.{Chained, SeenLine}
 use Rattle.archive.proofs.Folding.{Fold, fold-start, fold-line, fold-next, fold-end}
@@ -32,18 +30,11 @@ pub record Passed (bytes : List ℕ) (at k : ℕ) (head next : List ℕ) : Type 
 pub passed-start : {bytes head next : List ℕ} → Chained bytes 0 head next [] → Passed bytes 0 1 head next
 passed-start c = record { before = []; walk = fold-start; chained = c }
 
--- The line that was read, and its run.
-pub read-reply : {bytes : List ℕ} {answer : RunAnswer} {reply : RunReply} {run : Run} → answer ≡ answered.Accepted run →
-    reply ≡ replyOf answer → ReadPromise bytes (replyOf answer) → ReadPromise bytes (acceptedRun (reply .run))
-read-reply {bytes} a e r =
-    let s = e ∙ ap replyOf a in
-    subst (ReadPromise bytes) (ap replyOf a ∙ ap acceptedRun (sym (ap (λ (q : RunReply). q .run) s))) r
-
 module _ {bytes : List ℕ} {at k : ℕ} {head next : List ℕ} (p : Passed bytes at k head next) where
   module _ {end : ℕ} (l : at < length bytes) (e : end ≡ at + length (firstPart (drop at bytes))) where
     -- the line is refused with this number
     declined : (x : Refusal) → lineRefusal (p .before) (take (end - at) (drop at bytes)) ≡ numberOf x → length bytes ≤ 65536 →
-        CheckPromise bytes (checkReply (Refused x k))
+        CheckPromise bytes (plainCheck (Refused x k))
     declined x n short =
         check-promise
         (sym
@@ -52,7 +43,7 @@ module _ {bytes : List ℕ} {at k : ℕ} {head next : List ℕ} (p : Passed byte
         ∙ ap (λ (m : ℕ). refusedAt m k) n))
 
     pub passed-refused : (x : Refusal) → ReadPromise (take (end - at) (drop at bytes)) (refusedRun (numberOf x)) → length bytes ≤ 65536 →
-        CheckPromise bytes (checkReply (Refused x k))
+        CheckPromise bytes (plainCheck (Refused x k))
     passed-refused x r =
         let j = number-suc x in
         declined x (line-unread (p .before) _ (sym (ap (λ (q : RunReply). q .refusal) (r .equals)) ∙ j .1) ∙ sym (j .1))
@@ -63,7 +54,7 @@ module _ {bytes : List ℕ} {at k : ℕ} {head next : List ℕ} (p : Passed byte
       read : readOf (take (end - at) (drop at bytes)) .refusal ≡ 0
       read = sym (ap (λ (q : RunReply). q .refusal) (r .equals))
 
-      pub passed-twin : seen ≡ true → length bytes ≤ 65536 → CheckPromise bytes (checkReply (Refused DuplicateLine k))
+      pub passed-twin : seen ≡ true → length bytes ≤ 65536 → CheckPromise bytes (plainCheck (Refused DuplicateLine k))
       passed-twin t =
           declined DuplicateLine (line-read (p .before) _ read (sym (told .law (p .before) (p .chained) .0) ∙ t))
 
@@ -79,5 +70,5 @@ module _ {bytes : List ℕ} {at k : ℕ} {head next : List ℕ} (p : Passed byte
             chained = s .1;
           }
 
-  pub passed-end : length bytes ≤ at → length bytes ≤ 65536 → CheckPromise bytes (checkReply Accepted)
+  pub passed-end : length bytes ≤ at → length bytes ≤ 65536 → CheckPromise bytes (plainCheck Accepted)
   passed-end l short = check-promise (sym (short-check bytes short ∙ fold-end (p .walk) l ∙ unfold firstRefused in refl))

@@ -1,16 +1,15 @@
 -- A walk over the lines of an accepted archive: none of them is refused, so each that is read gives the next of its runs.
-use mathlib.Core.Path.{_≡_, refl, sym, ap, _∙_, subst}
+use mathlib.Core.Path.{_≡_, refl, sym, ap, _∙_}
 use mathlib.Core.Logic.{by-cases}
 use mathlib.Core.List.{List, _∷_}
 use Prim.Native.Nat.{ℕ, _+_, _-_, _<_}
 use native.Mathlib.Decide.{ℕ-discrete}
 use native.Mathlib.Omega.{arith}
 use lib.ListN.{length, take, drop}
-use Rattle.lines.specs.declared.RunAnswer.{RunAnswer}
-use Rattle.lines.specs.declared.RunReply.{RunReply}
-use Rattle.lines.specs.Run.{runRefusal}
-use Rattle.lines.specs.ReadLine.{ReadPromise, replyOf, readOf, runIn}
-use Rattle.lines.proofs.Reading.{accepted-line, own-run}
+use Rattle.runs.specs.declared.Run.{Run}
+use Rattle.runs.specs.Run.{runRefusal}
+use Rattle.lines.specs.ReadLine.{readOf, runIn}
+use Rattle.lines.proofs.Reading.{accepted-line}
 use Rattle.archive.specs.declared.parts.NextRun.{NextRun}
 use Rattle.archive.specs.Archive.{linesOf}
 use Rattle.archive.specs.Check.{CheckReply, checkOf}
@@ -19,26 +18,16 @@ use Rattle.archive.proofs.Splitting.{part-read, part-within, part-advan
 use Rattle.archive.proofs.Folding.{Fold, fold-line, fold-next}
 use Rattle.archive.proofs.Checking.{firstUnread, refusing, unread-next, unread-here, check-lines}
 
--- The line that was read, as it stands in the bytes.
-pub run-read : {bytes : List ℕ} {at end : ℕ} (answer : RunAnswer) {reply : RunReply} → at < length bytes →
-    readOf (firstPart (drop at bytes)) .refusal ≡ 0 → end ≡ at + length (firstPart (drop at bytes)) →
-    ReadPromise (take (end - at) (drop at bytes)) (replyOf answer) → reply ≡ replyOf answer →
-    LineRun bytes at (record { run = reply .run; end = end })
-run-read {bytes} {at} {end} answer {reply} l z e r same =
-    record { ends = e; is = is; accepted = ap runRefusal (sym is) ∙ accepted-line line z .0 }
-  where
-    line : List ℕ
-    line = firstPart (drop at bytes)
+-- The line that is read, as it stands in the bytes.
+module _ (bytes : List ℕ) {at end : ℕ} (l : at < length bytes) (z : readOf (firstPart (drop at bytes)) .refusal ≡ 0)
+    (e : end ≡ at + length (firstPart (drop at bytes))) where
+  pub run-reads : readOf (take (end - at) (drop at bytes)) .refusal ≡ 0
+  run-reads = ap (λ (bs : List ℕ). readOf bs .refusal) (part-read bytes l e) ∙ z
 
-    promise : ReadPromise line reply
-    promise =
-        subst (λ (bs : List ℕ). ReadPromise bs reply) (part-read bytes l e)
-        (subst (ReadPromise (take (end - at) (drop at bytes))) (sym same) r)
-
-    is : runIn line ≡ reply .run
-    is =
-        ap (λ (bs : List ℕ). runIn bs) (promise .accepted (ap (λ (p : RunReply). p .refusal) (promise .equals) ∙ z) .line)
-        ∙ own-run (reply .run)
+  pub run-read : {run : Run} → run ≡ runIn (take (end - at) (drop at bytes)) → LineRun bytes at (record { run = run; end = end })
+  run-read {run} r =
+      let is : runIn (firstPart (drop at bytes)) ≡ run = sym (r ∙ ap (λ (bs : List ℕ). runIn bs) (part-read bytes l e)) in
+      record { ends = e; is = is; accepted = ap runRefusal (sym is) ∙ accepted-line _ z .0 }
 
 -- The walk.
 module _ {bytes : List ℕ} {at : ℕ} {next : NextRun} (l : at < length bytes) (r : LineRun bytes at next) where

@@ -11,12 +11,12 @@ use native.Mathlib.Omega.{arith}
 use lib.ListN.{length, take, drop, getD, length-append, length-drop}
 use lib.Seq.{drop-cons, drop-drop, take-append-seam, drop-append-seam}
 use borrow.Author.Tests.{eq-eqb, ne-eqb}
-use Rattle.fields.specs.Digits.{digitsOf}
+use Rattle.decimals.specs.Digits.{digitsOf}
 use Rattle.fields.specs.Line.{fieldsLine}
-use Rattle.fields.proofs.Digits.{AllDigits, digits-bytes}
-use Rattle.lines.specs.declared.Run.{Run}
+use Rattle.decimals.proofs.Digits.{AllDigits, digits-bytes}
+use Rattle.runs.specs.declared.Run.{Run}
 use Rattle.lines.specs.Line.{lineOf}
-use Rattle.archive.specs.Archive.{onto, linesOf, archiveOf}
+use Rattle.archive.specs.Archive.{prepend, linesOf, archiveOf}
 use Rattle.archive.specs.Parts.{firstPart}
 
 -- First parts.
@@ -39,7 +39,7 @@ pub part-goes-on-at : (bytes : List ℕ) (i : ℕ) → i < length bytes → (get
 part-goes-on-at bytes i l d = rw (add-one i, drop-cons bytes i 0 l, part-goes-on (drop (suc i) bytes) d)
 
 -- the part and what follows it are the bytes
-pub part-split : (bytes : List ℕ) → bytes ≡ firstPart bytes ++ drop (length (firstPart bytes)) bytes
+part-split : (bytes : List ℕ) → bytes ≡ firstPart bytes ++ drop (length (firstPart bytes)) bytes
 part-split [] = unfold firstPart in refl
 part-split (b ∷ bytes) =
     by-cases (ℕ-discrete b 10) (λ e. rw (part-ends bytes e) refl)
@@ -53,7 +53,7 @@ pub part-length : (bytes : List ℕ) → length (firstPart bytes) ≤ length byt
 part-length bytes = omega (arith, simp length-append at (ap length (part-split bytes)))
 
 -- some bytes have a first part of some bytes
-pub part-some : (bytes : List ℕ) → 0 < length bytes → 0 < length (firstPart bytes)
+part-some : (bytes : List ℕ) → 0 < length bytes → 0 < length (firstPart bytes)
 part-some [] h = absurd (omega arith)
 part-some (b ∷ bytes) h = unfold firstPart in omega arith
 
@@ -104,7 +104,7 @@ line-ends : {b : ℕ} (bytes : List ℕ) → b ≡ 10 → linesOf (b ∷ bytes) 
 unfolding linesOf
 line-ends {b} bytes e = rw (eq-eqb b 10 e, linesOf)
 
-line-goes-on : {b : ℕ} (bytes : List ℕ) → (b ≡ 10 → ⊥) → linesOf (b ∷ bytes) ≡ onto b (linesOf bytes)
+line-goes-on : {b : ℕ} (bytes : List ℕ) → (b ≡ 10 → ⊥) → linesOf (b ∷ bytes) ≡ prepend b (linesOf bytes)
 unfolding linesOf
 line-goes-on {b} bytes d = rw (ne-eqb b 10 d, linesOf)
 
@@ -117,7 +117,7 @@ lines-first (b ∷ []) l =
 lines-first (b ∷ c ∷ bytes) l =
     let rest = lines-first (c ∷ bytes) (omega arith) in
     by-cases (ℕ-discrete b 10) (λ e. rw (part-ends (c ∷ bytes) e) (line-ends (c ∷ bytes) e))
-    (λ d. rw (part-goes-on (c ∷ bytes) d) (line-goes-on (c ∷ bytes) d ∙ ap (onto b) rest))
+    (λ d. rw (part-goes-on (c ∷ bytes) d) (line-goes-on (c ∷ bytes) d ∙ ap (prepend b) rest))
 
 -- the same for what the machine reads
 pub lines-read : {at end : ℕ} (bytes : List ℕ) → at < length bytes → end ≡ at + length (firstPart (drop at bytes)) →
@@ -132,10 +132,10 @@ unfoldable pub joined : List (List ℕ) → List ℕ
 joined [] = []
 joined (line ∷ lines) = line ++ joined lines
 
-joined-onto : (b : ℕ) (lines : List (List ℕ)) → joined (onto b lines) ≡ b ∷ joined lines
+joined-prepend : (b : ℕ) (lines : List (List ℕ)) → joined (prepend b lines) ≡ b ∷ joined lines
 unfolding joined
-joined-onto b [] = refl
-joined-onto b (line ∷ lines) = refl
+joined-prepend b [] = refl
+joined-prepend b (line ∷ lines) = refl
 
 pub lines-joined : (bytes : List ℕ) → joined (linesOf bytes) ≡ bytes
 unfolding joined linesOf
@@ -143,7 +143,7 @@ lines-joined [] = refl
 lines-joined (b ∷ bytes) =
     let rest = lines-joined bytes in
     by-cases (ℕ-discrete b 10) (λ e. ap joined (line-ends bytes e) ∙ ap (λ (l : List ℕ). b ∷ l) rest)
-    (λ d. ap joined (line-goes-on bytes d) ∙ joined-onto b (linesOf bytes) ∙ ap (λ (l : List ℕ). b ∷ l) rest)
+    (λ d. ap joined (line-goes-on bytes d) ∙ joined-prepend b (linesOf bytes) ∙ ap (λ (l : List ℕ). b ∷ l) rest)
 
 -- the lines of an archive
 pub lines-archive : (runs : List Run) → linesOf (archiveOf runs) ≡ map lineOf runs

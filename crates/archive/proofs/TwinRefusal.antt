@@ -10,11 +10,12 @@ use native.Mathlib.Omega.{arith}
 use lib.ListN.{length}
 use Rattle.generator.specs.declared.Generator.{Generator}
 use Rattle.refusals.specs.Refusals.{orElse}
-use Rattle.generator.specs.Check.{widthRefused, operandRefused, primeRefused, refusalOf}
+use Rattle.generator.specs.Recurrence.{kindOf}
+use Rattle.generator.specs.Check.{widthRefused, operandRefused, refusalOf}
 use Rattle.fields.specs.Line.{sameBytes, isLine}
 use Rattle.fields.proofs.Numbers.{same-test}
-use Rattle.lines.specs.declared.Run.{Run}
-use Rattle.lines.specs.Run.{countRefused, runRefusal}
+use Rattle.runs.specs.declared.Run.{Run}
+use Rattle.runs.specs.Run.{runOutOfRange, runRefusal}
 use Rattle.lines.specs.ReadLine.{runReply, runIn, readOf}
 use Rattle.archive.specs.Archive.{linesOf, numbered, Twin}
 use Rattle.archive.specs.Check.{CheckReply, refusedAt, isAmong, lineRefusal, firstRefused, checkOf, Accepts, CheckPromise}
@@ -33,14 +34,14 @@ else-small (suc m) n h g = h
 generator-small : (g : Generator) → refusalOf g ≤ 5
 unfolding refusalOf
 generator-small g =
-    cond-small (widthRefused (g .width)) 3 (cond (operandRefused g || primeRefused g) 4 0) (omega arith)
-    (cond-small (operandRefused g || primeRefused g) 4 0 (omega arith) (omega arith))
+    cond-small (widthRefused (g .width)) 3 (cond (operandRefused (kindOf g) g) 4 0) (omega arith)
+    (cond-small (operandRefused (kindOf g) g) 4 0 (omega arith) (omega arith))
 
 run-small : (run : Run) → runRefusal run ≤ 5
 unfolding runRefusal
 run-small run =
-    else-small (refusalOf (run .generator)) (cond (countRefused run) 5 0) (generator-small (run .generator))
-    (cond-small (countRefused run) 5 0 (omega arith) (omega arith))
+    else-small (refusalOf (run .generator)) (cond (runOutOfRange run) 5 0) (generator-small (run .generator))
+    (cond-small (runOutOfRange run) 5 0 (omega arith) (omega arith))
 
 reply-small : (n : ℕ) (run : Run) → n ≤ 5 → runReply n run .refusal ≤ 5
 reply-small zero run h = omega arith

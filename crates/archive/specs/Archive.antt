@@ -5,20 +5,20 @@ use mathlib.Core.List.{List, [], _∷_, _++_, map}
 use Prim.Native.Nat.{ℕ, zero, suc, _≤_, _<_}
 use lib.Dec.{eqb}
 use lib.ListN.{length}
-use Rattle.lines.specs.declared.Run.{Run}
-use Rattle.lines.specs.Run.{runRefusal}
+use Rattle.runs.specs.declared.Run.{Run}
+use Rattle.runs.specs.Run.{runRefusal}
 use Rattle.lines.specs.Line.{lineOf}
 use Rattle.lines.specs.ReadLine.{runIn}
 
 -- A byte in front of some lines.
-abbrev pub onto : ℕ → List (List ℕ) → List (List ℕ)
-onto b [] = (b ∷ []) ∷ []
-onto b (line ∷ lines) = (b ∷ line) ∷ lines
+abbrev pub prepend : ℕ → List (List ℕ) → List (List ℕ)
+prepend b [] = (b ∷ []) ∷ []
+prepend b (line ∷ lines) = (b ∷ line) ∷ lines
 
 -- The lines of any bytes: each ends with a byte 10, but for what stands behind the last one.
 unfoldable pub linesOf : List ℕ → List (List ℕ)
 linesOf [] = []
-linesOf (b ∷ bytes) = elim (eqb b 10) [ true ↦ (b ∷ []) ∷ linesOf bytes | false ↦ onto b (linesOf bytes) ]
+linesOf (b ∷ bytes) = elim (eqb b 10) [ true ↦ (b ∷ []) ∷ linesOf bytes | false ↦ prepend b (linesOf bytes) ]
 
 -- Their runs, if the archive is accepted.
 abbrev pub runsIn : List ℕ → List Run

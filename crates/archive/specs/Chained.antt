@@ -6,7 +6,7 @@ use Prim.Native.Nat.{ℕ, _-_}
 use lib.ListN.{length, getD, take, drop}
 use Rattle.chains.specs.Hash.{slotOf}
 use Rattle.chains.specs.Chains.{standsAmong, Tables}
-use Rattle.lines.specs.declared.Run.{Run}
+use Rattle.runs.specs.declared.Run.{Run}
 use Rattle.lines.specs.Line.{numbersOf, lineOf}
 use Rattle.archive.specs.Check.{isAmong}
 

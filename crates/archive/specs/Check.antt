@@ -7,7 +7,7 @@ use lib.Dec.{ltb}
 use lib.ListN.{length}
 use Rattle.refusals.specs.Refusals.{numberOf, orElse}
 use Rattle.fields.specs.Line.{sameBytes}
-use Rattle.lines.specs.declared.Run.{Run}
+use Rattle.runs.specs.declared.Run.{Run}
 use Rattle.lines.specs.ReadLine.{readOf}
 use Rattle.archive.specs.declared.ArchiveCheck.{ArchiveCheck}
 use Rattle.archive.specs.declared.ArchiveCheck.the-variants.{Accepted, Refused}
@@ -22,9 +22,9 @@ abbrev pub refusedAt : ℕ → ℕ → CheckReply
 refusedAt n line = record { refusal = n; line = line }
 
 -- What an answer says.
-abbrev pub checkReply : ArchiveCheck → CheckReply
-checkReply Accepted = refusedAt 0 0
-checkReply (Refused r line) = refusedAt (numberOf r) line
+abbrev pub plainCheck : ArchiveCheck → CheckReply
+plainCheck Accepted = refusedAt 0 0
+plainCheck (Refused r line) = refusedAt (numberOf r) line
 
 -- The line is one of these, byte by byte.
 unfoldable pub isAmong : List ℕ → List (List ℕ) → Bool

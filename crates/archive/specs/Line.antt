@@ -5,7 +5,7 @@ use mathlib.Core.List.{List, [], _∷_, map}
 use Prim.Native.Nat.{ℕ, zero, suc, _+_, _≤_}
 use lib.Dec.{eqb}
 use lib.ListN.{length, take, drop}
-use Rattle.lines.specs.declared.Run.{Run}
+use Rattle.runs.specs.declared.Run.{Run}
 use Rattle.lines.specs.Line.{lineOf}
 use Rattle.archive.specs.declared.Part.{Part}
 use Rattle.archive.specs.Archive.{linesOf, IsArchive, numbered}
@@ -14,18 +14,18 @@ use Rattle.archive.specs.Check.{checkOf}
 unfoldable pub lineAt : List ℕ → ℕ → List ℕ
 lineAt bytes n = elim (checkOf bytes .refusal) [ zero ↦ numbered [] (linesOf bytes) n | suc r ↦ [] ]
 
--- The place of line n among the lines from the k-th on, which starts at `start`; the empty part starts at 0.
-unfoldable pub placeFrom : ℕ → ℕ → ℕ → List (List ℕ) → Part
-placeFrom n k start [] = record { start = 0; length = 0 }
-placeFrom n k start (line ∷ lines) =
+-- The part of line n among the lines from the k-th on, which starts at `start`; the empty part starts at 0.
+unfoldable pub partFrom : ℕ → ℕ → ℕ → List (List ℕ) → Part
+partFrom n k start [] = record { start = 0; length = 0 }
+partFrom n k start (line ∷ lines) =
     elim (eqb k n) [
       | true ↦ record { start = start; length = length line }
-      | false ↦ placeFrom n (suc k) (start + length line) lines
+      | false ↦ partFrom n (suc k) (start + length line) lines
     ]
 
-unfoldable pub placeOf : List ℕ → ℕ → Part
-placeOf bytes n =
-    elim (checkOf bytes .refusal) [ zero ↦ placeFrom n 1 0 (linesOf bytes) | suc r ↦ record { start = 0; length = 0 } ]
+unfoldable pub partOf : List ℕ → ℕ → Part
+partOf bytes n =
+    elim (checkOf bytes .refusal) [ zero ↦ partFrom n 1 0 (linesOf bytes) | suc r ↦ record { start = 0; length = 0 } ]
 
 -- The promise of the call: of an accepted archive the line with that number, of any other bytes the empty part.
 pub record LinePromise (bytes : List ℕ) (n : ℕ) (part : List ℕ) : Type 0 where
@@ -33,8 +33,8 @@ pub record LinePromise (bytes : List ℕ) (n : ℕ) (part : List ℕ) : Type 0 w
   pub of-archive : (runs : List Run) → IsArchive bytes runs → part ≡ numbered [] (map lineOf runs) n
   pub of-others : ((runs : List Run) → IsArchive bytes runs → ⊥) → part ≡ []
 
--- The same part by its place in the archive.
+-- The same part by its start and its length.
 pub record PartPromise (bytes : List ℕ) (n : ℕ) (part : Part) : Type 0 where
-  pub equals : part ≡ placeOf bytes n
+  pub equals : part ≡ partOf bytes n
   pub inside : part .start + part .length ≤ length bytes
   pub meaning : take (part .length) (drop (part .start) bytes) ≡ lineAt bytes n

@@ -5,7 +5,7 @@ use mathlib.Core.List.{List, [], _∷_}
 use Prim.Native.Nat.{ℕ, _+_}
 use lib.Dec.{eqb}
 use lib.ListN.{length, drop}
-use Rattle.lines.specs.Run.{runRefusal}
+use Rattle.runs.specs.Run.{runRefusal}
 use Rattle.lines.specs.ReadLine.{runIn}
 use Rattle.archive.specs.declared.parts.NextRun.{NextRun}
 

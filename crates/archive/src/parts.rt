@@ -3,12 +3,12 @@ ghost use mathlib.Core.Path.{_≡_};
 ghost use Prim.Native.Nat.{_+_, _<_};
 ghost use lib.ListN.{length, drop};
 ghost use Rattle.lines.specs.ReadLine.{readOf};
-ghost use Rattle.archive.specs.Archive.{linesOf};
-ghost use Rattle.archive.specs.Line.{placeFrom};
+ghost use Rattle.archive.specs.Check.{checkOf};
+ghost use Rattle.archive.specs.Line.{PartPromise};
 ghost use Rattle.archive.specs.Parts.{firstPart, LineRun};
 use crate::Part;
-use lines::Run;
-use lines::plain::of_run;
+use lines::accepted::accepted_run;
+use runs::Run;
 
 // A run, and where its line ends.
 pub struct NextRun {
@@ -31,20 +31,23 @@ pub fn part_end(bytes: &[u8], at: usize) -> usize
     i
 }
 
-// The run of the part that starts at `at`, which is an accepted line. So the plain reply has its run, and no zeros.
+// The run of the part that starts at `at`, which is an accepted line.
 pub fn next_run(archive: &[u8], at: usize) -> NextRun
     requires { ⌜ at < length (now archive) ⌝ }
     requires { ⌜ readOf (firstPart (drop at (now archive))) .refusal ≡ 0 ⌝ }
     ensures { λ r. ⌜ LineRun (now (archive .entry)) at r ⌝ }
 {
     let end = part_end(archive, at);
-    let run = of_run(lines::read_line(&archive[at..end])).run;
-    NextRun { run, end }
+    NextRun {
+        run: accepted_run(&archive[at..end]),
+        end,
+    }
 }
 
-// The place of the line with that number, whether the archive is accepted or not.
-pub fn line_place(archive: &[u8], number: u64) -> Part
-    ensures { λ r. ⌜ r ≡ placeFrom number 1 0 (linesOf (now (archive .entry))) ⌝ }
+// The part that the line with that number of an accepted archive is; the empty part if there is no such line.
+pub fn part_of_line(archive: &[u8], number: u64) -> Part
+    requires { ⌜ checkOf (now archive) .refusal ≡ 0 ⌝ }
+    ensures { λ r. ⌜ PartPromise (now (archive .entry)) number r ⌝ }
 {
     let mut at = 0;
     let mut k = 1;

@@ -22,14 +22,14 @@ each-below [] small i l = absurd (omega arith)
 each-below (v ∷ vs) small zero l = small .0
 each-below (v ∷ vs) small (suc i) l = each-below vs (small .1) i (omega arith)
 
-pub long-line : (n : ℕ) (bytes : List ℕ) → 21 * n < length bytes → isLine n bytes ≡ false
+long-line : (n : ℕ) (bytes : List ℕ) → 21 * n < length bytes → isLine n bytes ≡ false
 long-line n bytes long =
     no-line n (λ vs count small e. omega (arith, ap length e, line-bound vs (each-below vs small), ap (λ (k : ℕ). 21 * k) count))
 
 -- An answer that equals the definition keeps the promise.
-promise : (stdin : Source) {n : ℕ} {numbers : List ℕ} {answer : Bool} → answer ≡ isQuestion n stdin →
+question-promise : (stdin : Source) {n : ℕ} {numbers : List ℕ} {answer : Bool} → answer ≡ isQuestion n stdin →
     (answer ≡ true → numbers ≡ numbersAsked stdin) → QuestionPromise stdin n numbers answer
-promise (holds bytes) {n} {numbers} {answer} e asked =
+question-promise (holds bytes) {n} {numbers} {answer} e asked =
     record {
       equals = e;
       asked = asked;
@@ -39,7 +39,7 @@ promise (holds bytes) {n} {numbers} {answer} e asked =
           (t, asked t ∙ ap (numbersFrom 0) bytes-are ∙ numbers-line vs);
       of-others = λ none. e ∙ no-line n (λ vs count small same. none vs count small (ap holds same));
     }
-promise unreadable e asked =
+question-promise unreadable e asked =
     record {
       equals = e;
       asked = asked;
@@ -54,7 +54,7 @@ module _ {input before numbers : List ℕ} {rest : Rest} {answer : Bool} (l : Li
       rw e
       (record {
         is = λ stdin r.
-            promise stdin (l .is-line ∙ ap (isQuestion (length before)) (sym r)) (λ t. l .numbers t ∙ ap numbersAsked (sym r));
+            question-promise stdin (l .is-line ∙ ap (isQuestion (length before)) (sym r)) (λ t. l .numbers t ∙ ap numbersAsked (sym r));
       })
 
   pub ask-front : rest ≡ Unknown → Enough (suc (21 * length before)) (length input) rest →
@@ -65,7 +65,7 @@ module _ {input before numbers : List ℕ} {rest : Rest} {answer : Bool} (l : Li
       rw e
       (record {
         is = λ stdin r.
-            promise stdin
+            question-promise stdin
             (no
             ∙ sym
             (ap (isQuestion (length before)) (r .1)
@@ -78,5 +78,5 @@ ask-none {n = n} e =
     rw e
     (record {
       is = λ stdin r.
-          promise stdin (sym (ap (isQuestion n) r)) (λ t. absurd (let z : _≡_ {A = ℕ} 0 1 = cc in omega arith));
+          question-promise stdin (sym (ap (isQuestion n) r)) (λ t. absurd (let z : _≡_ {A = ℕ} 0 1 = cc in omega arith));
     })

@@ -9,10 +9,10 @@ use lib.ListN.{length, take, drop, length-append, length-drop, drop-of-length-le
 use lib.Seq.{take-length, take-all, take-append-seam, drop-append-seam, drop-drop}
 use Rattle.fields.specs.Line.{fieldsLine}
 use Rattle.fields.specs.Codec.{FrontWritten}
-use Rattle.fields.proofs.Digits.{digits-length}
+use Rattle.decimals.proofs.Digits.{digits-length}
 
-pub within : {bytes before after : List ℕ} {n : ℕ} → FrontWritten bytes before after n → n ≤ length after
-within w = omega (arith, simp length-append at (ap length (w .whole)))
+pub front-within : {bytes before after : List ℕ} {n : ℕ} → FrontWritten bytes before after n → n ≤ length after
+front-within w = omega (arith, simp length-append at (ap length (w .whole)))
 
 -- the buffer is as long as before
 pub front-kept : {bytes before after : List ℕ} {n : ℕ} → FrontWritten bytes before after n → length bytes ≤ length before →

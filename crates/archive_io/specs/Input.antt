@@ -8,11 +8,11 @@ use Rattle.archive_io.specs.declared.input.Reading.{Reading}
 use Rattle.archive_io.specs.declared.input.Rest.{Rest}
 use Rattle.archive_io.specs.declared.input.Rest.the-variants.{Nothing, Unknown, Failed}
 
--- where more may follow, n is at least this many
+-- where more may follow, n is at least as many as are needed
 abbrev pub Enough : ℕ → ℕ → Rest → Type 0
-Enough least n Nothing = Unit {0}
-Enough least n Unknown = least ≤ n
-Enough least n Failed = Unit {0}
+Enough needed n Nothing = Unit {0}
+Enough needed n Unknown = needed ≤ n
+Enough needed n Failed = Unit {0}
 
 -- the buffer is full where more may follow
 pub record Filled (buffer : List ℕ) (reading : Reading) : Type 0 where

@@ -7,7 +7,7 @@ use crate::input::Rest;
 use fields::line;
 
 // Reads the numbers of the question that standard input holds, as many as there is room for, and tells whether it holds
-// one. A field has at most 20 digits and its mark, so one byte more than 21 for each shows that it is none.
+// one. A field has at most 20 digits and its delimiter, so one byte more than 21 for each shows that it is none.
 pub fn ask(input: &[u8], rest: Rest, numbers: &mut [u64]) -> bool
     requires { ⌜ Enough (suc (21 * length (now numbers))) (length (now input)) rest ⌝ }
     ensures { λ r. ⌜ AskPromise (now (input .entry)) rest (length (now (numbers .entry))) (now (numbers .exit)) r ⌝ }

@@ -14,7 +14,7 @@ slots :
 unfolding slotOf hashFrom
 slots = refl
 
--- parts at 0 and 12, the mark 13 before the mark 1: both are met, a part in between and one that is longer are not
+-- parts at 0 and 12, the link 13 before the link 1: both are met, a part in between and one that is longer are not
 abbrev two : List ℕ
 two = ascii "1,0,0,0,0,1\n1,0,0,0,0,2\n1,0"
 

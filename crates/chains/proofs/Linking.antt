@@ -1,4 +1,4 @@
--- The chains' laws. A chain ends, since each mark is below the one before it; and a part that is added at the front changes
+-- The chains' laws. A chain ends, since each link is below the one before it; and a part that is added at the front changes
 -- no chain but its own, since its entry of `next` lies behind those of all parts before it.
 use mathlib.Core.Path.{_≡_, refl, sym, ap, _∙_, subst₂}
 use mathlib.Core.Logic.{by-cases}
@@ -14,7 +14,7 @@ use Rattle.chains.specs.Chains.{stands, standsWithin, standsAmong, Falli
 
 -- One chain.
 module _ (bytes : List ℕ) {next : List ℕ} (part : List ℕ) (f : Falling next) where
-  -- as many marks as the first one says are enough
+  -- as many links as the first one says are enough
   enough : (n k m : ℕ) → m ≤ n → m ≤ k → standsWithin bytes next part n m ≡ standsWithin bytes next part k m
   unfolding standsWithin
   enough zero zero zero h g = refl
@@ -27,7 +27,7 @@ module _ (bytes : List ℕ) {next : List ℕ} (part : List ℕ) (f : Falling nex
       ap (λ (b : Bool). stands bytes part s || b)
       (enough n k (getD next (s / 12) 0) (omega (arith, f .law (s / 12))) (omega (arith, f .law (s / 12))))
 
-  -- the first mark, and those behind it
+  -- the first link, and those behind it
   pub chain-step : (s : ℕ) →
       standsAmong bytes next part (suc s) ≡ stands bytes part s || standsAmong bytes next part (getD next (s / 12) 0)
   unfolding standsWithin

@@ -21,7 +21,7 @@ fn same_bytes(bytes: &[u8], start: usize, at: usize, n: usize) -> bool
     true
 }
 
-// Whether the n bytes at `at` stand at a mark of the chain.
+// Whether the n bytes at `at` stand at a link of the chain.
 fn stand_among(bytes: &[u8], at: usize, n: usize, first: u16, next: &[u16]) -> bool
     requires { ⌜ first ≤ at ⌝ }
     requires { ⌜ at + n ≤ length (now bytes) ⌝ }
@@ -29,13 +29,13 @@ fn stand_among(bytes: &[u8], at: usize, n: usize, first: u16, next: &[u16]) -> b
     requires { ⌜ Falling (now next) ⌝ }
     ensures { λ r. ⌜ r ≡ standsAmong (now (bytes .entry)) (now (next .entry)) (take n (drop at (now (bytes .entry)))) first ⌝ }
 {
-    let mut mark = first as usize;
-    while mark != 0 {
-        let start = mark - 1;
+    let mut link = first as usize;
+    while link != 0 {
+        let start = link - 1;
         if same_bytes(bytes, start, at, n) {
             return true;
         }
-        mark = next[start / 12] as usize;
+        link = next[start / 12] as usize;
     }
     false
 }
@@ -58,8 +58,8 @@ pub fn seen_before(
 {
     let first = head[slot];
     let seen = stand_among(bytes, at, end - at, first, &next[..]);
-    let mark = (at + 1) as u16;
+    let link = (at + 1) as u16;
     next[at / 12] = first;
-    head[slot] = mark;
+    head[slot] = link;
     seen
 }

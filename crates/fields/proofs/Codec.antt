@@ -12,16 +12,16 @@ use lib.Dec.{eqb}
 use lib.ListN.{length, getD, take, drop, set, length-append, length-drop, length-set, drop-of-length-le, take-append-drop}
 use lib.Seq.{take-all, take-suc-set, take-at, drop-at, drop-drop, drop-cons, length-take-le}
 use borrow.Author.Tests.{eq-eqb, ne-eqb}
-use Rattle.fields.specs.Digits.{digitsOf}
-use Rattle.fields.specs.Field.{Found, NoField, Written}
-use Rattle.fields.specs.Line.{markBefore, fieldsLine, numbersFrom, isLine}
+use Rattle.decimals.specs.Digits.{digitsOf}
+use Rattle.decimals.specs.Field.{FieldFound, NoField, Written}
+use Rattle.fields.specs.Line.{delimiterBefore, fieldsLine, numbersFrom, isLine}
 use Rattle.fields.specs.Codec.{LineRead, FrontWritten}
-use Rattle.fields.proofs.Digits.{digits-length}
+use Rattle.decimals.proofs.Digits.{digits-length}
 use Rattle.fields.proofs.Numbers.{line-field, line-no-field, line-none, line-some}
 
-pub mark-comma : (n : ℕ) → (n ≡ 0 → ⊥) → 44 ≡ markBefore n
-mark-comma zero d = absurd (d refl)
-mark-comma (suc n) d = refl
+pub delimiter-comma : (n : ℕ) → (n ≡ 0 → ⊥) → 44 ≡ delimiterBefore n
+delimiter-comma zero d = absurd (d refl)
+delimiter-comma (suc n) d = refl
 
 -- Reading.
 
@@ -44,14 +44,14 @@ read-start bytes before =
       guess = refl;
     }
 
-module _ {bytes before numbers : List ℕ} {at k mark : ℕ} (s : ReadSoFar bytes before numbers at k) (l : k < length numbers)
-    (m : mark ≡ markBefore (length numbers - k - 1)) where
+module _ {bytes before numbers : List ℕ} {at k delimiter : ℕ} (s : ReadSoFar bytes before numbers at k) (l : k < length numbers)
+    (m : delimiter ≡ delimiterBefore (length numbers - k - 1)) where
   -- the fields left
   others : length before - k ≡ suc (length numbers - k - 1)
   others = omega (arith, s .size)
 
   -- one more field, or none where one should be
-  pub read-next : {v next : ℕ} → Found (drop at bytes) bytes mark v next → ReadSoFar bytes before (set numbers k v) next (k + 1)
+  pub read-next : {v next : ℕ} → FieldFound (drop at bytes) bytes delimiter v next → ReadSoFar bytes before (set numbers k v) next (k + 1)
   read-next {v} {next} f =
       let step = line-field (length numbers - k - 1) v (drop next bytes) (f .small) (rw m at (f .reads)) in
       record {
@@ -69,7 +69,7 @@ module _ {bytes before numbers : List ℕ} {at k mark : ℕ} (s : ReadSoFar byte
             (sym (ap (λ (j : ℕ). take j (set numbers k v)) (add-one k) ∙ take-suc-set numbers k v l));
       }
 
-  pub read-none : NoField (drop at bytes) mark → LineRead bytes before numbers false
+  pub read-none : NoField (drop at bytes) delimiter → LineRead bytes before numbers false
   read-none none =
       record {
         is-line =
@@ -112,7 +112,7 @@ read-end {bytes} {before} {numbers} {at} {k} s l = by-cases (ℕ-discrete at (le
 
 -- The fields that are left of a line, from the k-th on.
 left-fields : (vs : List ℕ) (k : ℕ) → k < length vs →
-    fieldsLine (drop k vs) ≡ digitsOf (getD vs k 0) ++ (markBefore (length vs - k - 1) ∷ fieldsLine (drop (k + 1) vs))
+    fieldsLine (drop k vs) ≡ digitsOf (getD vs k 0) ++ (delimiterBefore (length vs - k - 1) ∷ fieldsLine (drop (k + 1) vs))
 unfolding fieldsLine
 left-fields vs k l =
     let e : length (drop (suc k) vs) ≡ length vs - k - 1 = simp length-drop (omega arith) in
@@ -160,11 +160,11 @@ pub front-start : (whole before : List ℕ) → FrontSoFar whole whole before be
 front-start whole before = record { kept = refl; within = omega arith; front = refl; behind = refl }
 
 -- what is left begins with a field
-pub record FieldNext (left : List ℕ) (v mark : ℕ) (rest : List ℕ) : Type 0 where
-  pub reads : left ≡ digitsOf v ++ (mark ∷ rest)
+pub record FieldNext (left : List ℕ) (v delimiter : ℕ) (rest : List ℕ) : Type 0 where
+  pub reads : left ≡ digitsOf v ++ (delimiter ∷ rest)
 
-module _ {whole left before buf rest : List ℕ} {at v mark : ℕ} (s : FrontSoFar whole left before buf at)
-    (field : FieldNext left v mark rest) where
+module _ {whole left before buf rest : List ℕ} {at v delimiter : ℕ} (s : FrontSoFar whole left before buf at)
+    (field : FieldNext left v delimiter rest) where
   -- there is room for it where the buffer has room for the whole
   pub front-room : length whole ≤ length before → at + length (digitsOf v) + 1 ≤ length buf
   front-room fits =
@@ -175,7 +175,7 @@ module _ {whole left before buf rest : List ℕ} {at v mark : ℕ} (s : FrontSoF
         simp length-append at (ap length (s .front ∙ ap (λ (bs : List ℕ). take at buf ++ bs) (field .reads))),
       )
 
-  pub front-next : {after : List ℕ} {next : ℕ} → Written buf after at v mark next → length after ≡ length buf →
+  pub front-next : {after : List ℕ} {next : ℕ} → Written buf after at v delimiter next → length after ≡ length buf →
       FrontSoFar whole rest before after next
   front-next {after} {next} w kept =
       record {
@@ -183,27 +183,27 @@ module _ {whole left before buf rest : List ℕ} {at v mark : ℕ} (s : FrontSoF
         within = omega (arith, kept, ap length bytes, length-append front (drop next buf), size);
         front =
             s .front
-            ∙ ap (λ (bs : List ℕ). take at buf ++ bs) (field .reads ∙ sym (append-assoc (digitsOf v) (mark ∷ []) rest))
-            ∙ sym (append-assoc (take at buf) (digitsOf v ++ (mark ∷ [])) rest)
+            ∙ ap (λ (bs : List ℕ). take at buf ++ bs) (field .reads ∙ sym (append-assoc (digitsOf v) (delimiter ∷ []) rest))
+            ∙ sym (append-assoc (take at buf) (digitsOf v ++ (delimiter ∷ [])) rest)
             ∙ ap (λ (bs : List ℕ). bs ++ rest) (sym (ap (take next) bytes ∙ take-at front _ next size));
         behind = ap (drop next) bytes ∙ drop-at front _ next size ∙ later;
       }
     where
       front : List ℕ
-      front = take at buf ++ (digitsOf v ++ (mark ∷ []))
+      front = take at buf ++ (digitsOf v ++ (delimiter ∷ []))
 
       size : length front ≡ next
-      size = simp length-append (omega (arith, w .place, length-take-le at buf (s .within)))
+      size = simp length-append (omega (arith, w .ends, length-take-le at buf (s .within)))
 
       bytes : after ≡ front ++ drop next buf
       bytes =
           w .bytes
-          ∙ ap (λ (bs : List ℕ). take at buf ++ bs) (sym (append-assoc (digitsOf v) (mark ∷ []) (drop next buf)))
-          ∙ sym (append-assoc (take at buf) (digitsOf v ++ (mark ∷ [])) (drop next buf))
+          ∙ ap (λ (bs : List ℕ). take at buf ++ bs) (sym (append-assoc (digitsOf v) (delimiter ∷ []) (drop next buf)))
+          ∙ sym (append-assoc (take at buf) (digitsOf v ++ (delimiter ∷ [])) (drop next buf))
 
       later : drop next buf ≡ drop next before
       later =
-          let e : at + (length (digitsOf v) + 1) ≡ next = omega (arith, w .place) in
+          let e : at + (length (digitsOf v) + 1) ≡ next = omega (arith, w .ends) in
           ap (λ (j : ℕ). drop j buf) (sym e)
           ∙ sym (drop-drop (length (digitsOf v) + 1) at buf)
           ∙ ap (drop (length (digitsOf v) + 1)) (s .behind)
@@ -228,8 +228,8 @@ front-end {whole} {left} {before} {buf} {at} s none =
     size = sym (length-take-le at buf (s .within)) ∙ ap length front
 
 -- of a line the k-th field is next, or nothing is left
-pub next-field : (vs : List ℕ) (k : ℕ) {mark : ℕ} → k < length vs → mark ≡ markBefore (length vs - k - 1) →
-    FieldNext (fieldsLine (drop k vs)) (getD vs k 0) mark (fieldsLine (drop (k + 1) vs))
+pub next-field : (vs : List ℕ) (k : ℕ) {delimiter : ℕ} → k < length vs → delimiter ≡ delimiterBefore (length vs - k - 1) →
+    FieldNext (fieldsLine (drop k vs)) (getD vs k 0) delimiter (fieldsLine (drop (k + 1) vs))
 next-field vs k l m =
     record { reads = left-fields vs k l ∙ ap (λ (j : ℕ). digitsOf (getD vs k 0) ++ (j ∷ fieldsLine (drop (k + 1) vs))) (sym m) }
 

@@ -3,7 +3,7 @@ use mathlib.Core.Path.{_≡_, refl}
 use mathlib.Core.Bool.{true, false}
 use mathlib.Core.List.{[], _∷_, map}
 use Rattle.fields.specs.Ascii.{ascii}
-use Rattle.fields.specs.Digits.{digitsOf, lastDigits}
+use Rattle.decimals.specs.Digits.{digitsOf, lastDigits}
 use Rattle.fields.specs.Line.{fieldsLine, numbersFrom, isLine}
 
 -- the guess: what stands behind the last byte that is no digit is no number
@@ -18,7 +18,7 @@ lines : map (isLine 2) (ascii "4,50\n" ∷ ascii "0,0\n" ∷ ascii "184467440737
 unfolding isLine numbersFrom fieldsLine digitsOf lastDigits
 lines = refl
 
--- and none: byte 10 missing, a leading zero, 2^64, three fields, one, a mark for another, an empty field, no bytes
+-- and none: byte 10 missing, a leading zero, 2^64, three fields, one, a delimiter for another, an empty field, no bytes
 damaged :
     map (isLine 2)
     (ascii "4,50"

@@ -1,8 +1,4 @@
--- `Digits` and `Numbers` have the laws of `specs/`; `Reading`, `Writing` and `Codec` what each step of the functions of
--- `field` and `line` shows.
-pub mod Digits
+-- `Numbers` has the laws of `specs/`, and `Codec` what each step of the functions of `line` shows.
 pub mod Numbers
-pub mod Reading
-pub mod Writing
 pub mod Codec
 mod Examples

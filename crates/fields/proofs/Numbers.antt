@@ -9,20 +9,49 @@ use native.Mathlib.Omega.{arith}
 use lib.Dec.{eqb, ltb}
 use lib.ListN.{length, length-append}
 use borrow.Author.Tests.{eq-eqb, eqb-true, lt-ltb, ltb-true}
-use Rattle.fields.specs.Digits.{digitsOf}
-use Rattle.fields.specs.Field.{NoField}
-use Rattle.fields.specs.Line.{markBefore, fieldsLine, AllBelow, numbersFrom, allBelow, sameBytes, isLine}
-use Rattle.fields.proofs.Digits.{digits-nonempty, field-unique, numbers-field}
+use Rattle.decimals.specs.Digits.{digitsOf}
+use Rattle.decimals.specs.Field.{NoField}
+use Rattle.fields.specs.Line.{delimiterBefore, fieldsLine, AllBelow, numbersFrom, allBelow, sameBytes, isLine}
+use Rattle.decimals.proofs.Digits.{digits-nonempty, field-unique, Stops, isDigit, scan-digits, scan-stop, scan}
+use mathlib.Core.Path.{_≡_, refl, sym, ap, _∙_, subst}
+use mathlib.Core.Bool.{Bool, true, false, cond, _&&_}
+use mathlib.Core.List.{List, [], _∷_, _++_}
+use Prim.Native.Nat.{ℕ, zero, suc, _+_, _*_, _^_, _-_, _≤_, _<_}
+use native.Mathlib.Omega.{arith}
+use lib.ListN.{length, length-append}
+use borrow.Author.Tests.{lt-ltb}
 
-mark-small : (n : ℕ) → markBefore n < 48
-mark-small zero = omega arith
-mark-small (suc n) = omega arith
+-- The guess at a line's numbers goes on behind the digits that are scanned, if any byte is left there.
+after : ℕ × List ℕ → List ℕ
+after (v, []) = []
+after (v, b ∷ rest) = v ∷ numbersFrom 0 rest
 
-pub mark-under : {m : ℕ} (n : ℕ) → m ≡ markBefore n → m < 48
-mark-under n e = omega (arith, mark-small n)
+numbers-scan : (v : ℕ) (bytes : List ℕ) → numbersFrom v bytes ≡ after (scan v bytes)
+unfolding numbersFrom scan after
+numbers-scan v [] = refl
+numbers-scan v (b ∷ rest) = go (isDigit b) (numbers-scan (v * 10 + (b - 48)) rest)
+  where
+    go : (t : Bool) → numbersFrom (v * 10 + (b - 48)) rest ≡ after (scan (v * 10 + (b - 48)) rest) →
+        elim t [ true ↦ numbersFrom (v * 10 + (b - 48)) rest | false ↦ v ∷ numbersFrom 0 rest ]
+        ≡ after (cond t (scan (v * 10 + (b - 48)) rest) (v, b ∷ rest))
+    go true e = e
+    go false e = refl
 
-mark-stops : (n : ℕ) → 48 ≤ markBefore n → 57 < markBefore n
-mark-stops n h = absurd (omega (arith, mark-small n))
+-- so it begins with the number of a field
+numbers-field : (v m : ℕ) (rest : List ℕ) → Stops (m ∷ rest) → numbersFrom 0 (digitsOf v ++ (m ∷ rest)) ≡ v ∷ numbersFrom 0 rest
+unfolding after
+numbers-field v m rest stops =
+    numbers-scan 0 (digitsOf v ++ (m ∷ rest)) ∙ ap after (scan-digits v (m ∷ rest) ∙ scan-stop v (m ∷ rest) stops)
+
+delimiter-small : (n : ℕ) → delimiterBefore n < 48
+delimiter-small zero = omega arith
+delimiter-small (suc n) = omega arith
+
+pub delimiter-under : {m : ℕ} (n : ℕ) → m ≡ delimiterBefore n → m < 48
+delimiter-under n e = omega (arith, delimiter-small n)
+
+delimiter-stops : (n : ℕ) → 48 ≤ delimiterBefore n → 57 < delimiterBefore n
+delimiter-stops n h = absurd (omega (arith, delimiter-small n))
 
 -- The guess.
 
@@ -31,7 +60,7 @@ pub numbers-line : (vs : List ℕ) → numbersFrom 0 (fieldsLine vs) ≡ vs
 unfolding fieldsLine numbersFrom
 numbers-line [] = refl
 numbers-line (v ∷ vs) =
-    numbers-field v (markBefore (length vs)) (fieldsLine vs) (mark-stops (length vs)) ∙ ap (λ (ws : List ℕ). v ∷ ws) (numbers-line vs)
+    numbers-field v (delimiterBefore (length vs)) (fieldsLine vs) (delimiter-stops (length vs)) ∙ ap (λ (ws : List ℕ). v ∷ ws) (numbers-line vs)
 
 pub line-injective : (vs ws : List ℕ) → fieldsLine vs ≡ fieldsLine ws → vs ≡ ws
 line-injective vs ws e = sym (numbers-line vs) ∙ ap (numbersFrom 0) e ∙ numbers-line ws
@@ -103,27 +132,27 @@ no-test false f = refl
 
 -- Field by field.
 
-pub line-field : {bytes : List ℕ} (n v : ℕ) (rest : List ℕ) → v < 2 ^ 64 → bytes ≡ digitsOf v ++ (markBefore n ∷ rest) →
+pub line-field : {bytes : List ℕ} (n v : ℕ) (rest : List ℕ) → v < 2 ^ 64 → bytes ≡ digitsOf v ++ (delimiterBefore n ∷ rest) →
     (isLine (suc n) bytes ≡ isLine n rest) × (numbersFrom 0 bytes ≡ v ∷ numbersFrom 0 rest)
 line-field {bytes} n v rest small e = (same-tests (isLine (suc n) bytes) (isLine n rest) shorter longer, guess)
   where
     guess : numbersFrom 0 bytes ≡ v ∷ numbersFrom 0 rest
-    guess = ap (numbersFrom 0) e ∙ numbers-field v (markBefore n) rest (mark-stops n)
+    guess = ap (numbersFrom 0) e ∙ numbers-field v (delimiterBefore n) rest (delimiter-stops n)
 
     shorter : isLine (suc n) bytes ≡ true → isLine n rest ≡ true
     shorter h =
         let l = is-line (suc n) h in
         let ws = numbersFrom 0 rest in
-        let line : digitsOf v ++ (markBefore n ∷ rest) ≡ digitsOf v ++ (markBefore (length ws) ∷ fieldsLine ws) =
+        let line : digitsOf v ++ (delimiterBefore n ∷ rest) ≡ digitsOf v ++ (delimiterBefore (length ws) ∷ fieldsLine ws) =
         sym e ∙ l .line ∙ ap fieldsLine guess ∙ unfold fieldsLine in refl in
         line-is n ws (omega (arith, l .count, ap length guess)) (subst (AllBelow (2 ^ 64)) guess (l .small) .1)
-        (field-unique (mark-stops n) (mark-stops (length ws)) line .2)
+        (field-unique (delimiter-stops n) (delimiter-stops (length ws)) line .2)
 
     longer : isLine n rest ≡ true → isLine (suc n) bytes ≡ true
     longer h =
         let l = is-line n h in
         let ws = numbersFrom 0 rest in
-        let line : fieldsLine (v ∷ ws) ≡ digitsOf v ++ (markBefore n ∷ rest) = unfold fieldsLine in rw (l .count, ← l .line) in
+        let line : fieldsLine (v ∷ ws) ≡ digitsOf v ++ (delimiterBefore n ∷ rest) = unfold fieldsLine in rw (l .count, ← l .line) in
         line-is (suc n) (v ∷ ws) (ap suc (l .count)) (small, l .small) (e ∙ sym line)
 
 -- no numbers whose line the bytes are, no line
@@ -132,7 +161,7 @@ pub no-line : {bytes : List ℕ} (n : ℕ) → ((vs : List ℕ) → length vs �
 no-line {bytes} n none =
     no-test (isLine n bytes) (λ h. let l = is-line n h in none (numbersFrom 0 bytes) (l .count) (l .small) (l .line))
 
-pub line-no-field : {bytes : List ℕ} (n : ℕ) → NoField bytes (markBefore n) → isLine (suc n) bytes ≡ false
+pub line-no-field : {bytes : List ℕ} (n : ℕ) → NoField bytes (delimiterBefore n) → isLine (suc n) bytes ≡ false
 unfolding fieldsLine
 line-no-field {bytes} n unreadable = no-line (suc n) none
   where

@@ -5,16 +5,16 @@ use mathlib.Core.List.{List, [], _∷_, _++_}
 use Prim.Native.Nat.{ℕ, zero, suc, _+_, _*_, _-_, _<_, _^_}
 use lib.Dec.{eqb, leb, ltb}
 use lib.ListN.{length}
-use Rattle.fields.specs.Digits.{digitsOf}
+use Rattle.decimals.specs.Digits.{digitsOf}
 
--- the mark of a field that n fields follow: 10 if it is the last one, else a comma
-abbrev pub markBefore : ℕ → ℕ
-markBefore zero = 10
-markBefore (suc n) = 44
+-- the delimiter of a field that n fields follow: 10 if it is the last one, else a comma
+abbrev pub delimiterBefore : ℕ → ℕ
+delimiterBefore zero = 10
+delimiterBefore (suc n) = 44
 
 unfoldable pub fieldsLine : List ℕ → List ℕ
 fieldsLine [] = []
-fieldsLine (v ∷ vs) = digitsOf v ++ (markBefore (length vs) ∷ fieldsLine vs)
+fieldsLine (v ∷ vs) = digitsOf v ++ (delimiterBefore (length vs) ∷ fieldsLine vs)
 
 abbrev pub AllBelow : ℕ → List ℕ → Type 0
 AllBelow m [] = Unit {0}

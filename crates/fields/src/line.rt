@@ -3,15 +3,15 @@ ghost use mathlib.Core.Path.{_≡_};
 ghost use Prim.Native.Nat.{_≤_};
 ghost use lib.ListN.{length};
 ghost use Rattle.fields.specs.Codec.{FrontWritten, LineRead};
-ghost use Rattle.fields.specs.Line.{fieldsLine, markBefore};
-use crate::field::Field;
-use crate::field::field_length;
-use crate::field::read_field;
-use crate::field::write_field;
+ghost use Rattle.fields.specs.Line.{fieldsLine, delimiterBefore};
+use decimals::Field;
+use decimals::field_length;
+use decimals::read_field;
+use decimals::write_field;
 
-// The mark of a field that n fields follow.
-fn mark_before(n: usize) -> u8
-    ensures { λ r. ⌜ r ≡ markBefore n ⌝ }
+// The delimiter of a field that n fields follow.
+fn delimiter_before(n: usize) -> u8
+    ensures { λ r. ⌜ r ≡ delimiterBefore n ⌝ }
 {
     if n == 0 {
         return 10;
@@ -26,8 +26,8 @@ pub fn read(bytes: &[u8], numbers: &mut [u64]) -> bool
     let mut at = 0;
     let mut k = 0;
     while k < numbers.len() {
-        let mark = mark_before(numbers.len() - k - 1);
-        let Field::Number(number, next) = read_field(bytes, at, mark) else {
+        let delimiter = delimiter_before(numbers.len() - k - 1);
+        let Field::Number(number, next) = read_field(bytes, at, delimiter) else {
             return false;
         };
         numbers[k] = number;
@@ -59,8 +59,8 @@ pub fn write(buf: &mut [u8], numbers: &[u64]) -> usize
     let mut at = 0;
     let mut k = 0;
     while k < numbers.len() {
-        let mark = mark_before(numbers.len() - k - 1);
-        at = write_field(buf, at, numbers[k], mark);
+        let delimiter = delimiter_before(numbers.len() - k - 1);
+        at = write_field(buf, at, numbers[k], delimiter);
         k += 1;
     }
     at

@@ -8,11 +8,13 @@ use Rattle.sequences.proofs.Orbits.{Follows}
 use Rattle.powers.specs.Prime.{along}
 use Rattle.powers.proofs.Sequences.{Multiplies, multiplied, element-low, element-high}
 use Rattle.generator.specs.declared.Generator.{Generator}
-use Rattle.generator.specs.Recurrence.{modulus, step, element}
+use Rattle.generator.specs.Recurrence.{kindOf, modulus, step, element}
 use Rattle.generator.specs.Check.{refusalOf}
-use Rattle.generator.specs.Kinds.{IsElement, seeded, Restarted}
+use Rattle.generator.specs.declared.Kind.{Kind}
+use Rattle.generator.specs.declared.Kind.the-variants as kind
+use Rattle.generator.specs.Kinds.{IsElement, seeded, Restarted, OfKind}
 use Rattle.generator.specs.Prime.{Prime}
-use Rattle.generator.proofs.Refusals.{Accepted, accepted, accepted-none, modulus-positive, prime}
+use Rattle.generator.proofs.Refusals.{accepted, accepted-width, accepted-kind, kind-accepted, modulus-linear, modulus-prime, modulus-positive}
 
 -- the next element is one step on
 pub element-next : (g : Generator) (i : ℕ) → element g (suc i) ≡ step g (element g i)
@@ -33,9 +35,9 @@ element-below g e (suc i) = mod-lt _ (modulus-positive g)
 
 -- the prime-modulus models: a step multiplies by 16807, and no element is 0
 pub prime-step : {g : Generator} → Prime g → (x : ℕ) → step g x ≡ 16807 * x % 2147483647
-unfolding step modulus
+unfolding step
 prime-step {g} p x =
-    rw (p .multiplier, p .increment, p .width)
+    rw (modulus-prime g (p .kind), p .multiplier, p .increment)
     (ap (λ (k : ℕ). k % 2147483647) (add-zero (16807 * x)))
 
 pub prime-multiplies : {g : Generator} → Prime g → Multiplies (element g)
@@ -49,12 +51,9 @@ prime-multiplies {g} p =
 pub prime-element : {g : Generator} → Prime g → (i : ℕ) → element g i ≡ along (g .seed) i
 prime-element {g} p i = multiplied (prime-multiplies p) i ∙ ap (λ (s : ℕ). along s i) (element-start g)
 
-element-at-zero : (g : Generator) → refusalOf g ≡ 0 → g .width ≡ 0 → (i : ℕ) → 1 ≤ element g i
-element-at-zero g e z = element-low (prime-multiplies (prime g e z))
-
-pub prime-below : {g : Generator} {x : ℕ} → refusalOf g ≡ 0 → g .width ≡ 0 → IsElement g x → x < 2147483647
-prime-below {g} {x} e z is =
-    subst (λ (u : ℕ). u < 2147483647) (is .yields) (element-high (prime-multiplies (prime g e z)) (is .index))
+pub prime-below : {g : Generator} {x : ℕ} → Prime g → IsElement g x → x < 2147483647
+prime-below {g} {x} p is =
+    subst (λ (u : ℕ). u < 2147483647) (is .yields) (element-high (prime-multiplies p) (is .index))
 
 -- from element i on
 module _ (g : Generator) {x : ℕ} where
@@ -63,24 +62,32 @@ module _ (g : Generator) {x : ℕ} where
   seeded-goes-on i e zero = sym e ∙ ap (element g) (sym (add-zero i))
   seeded-goes-on i e (suc p) = ap (step g) (seeded-goes-on i e p) ∙ ap (element g) (sym (add-suc i p))
 
-  -- the table of refusals asks of the seed only that it is below the modulus and, at width 0, that it is not 0
+  -- of the seed the kinds ask only what holds of every element
+  seeded-kind : (k : Kind) → kindOf g ≡ k → refusalOf g ≡ 0 → IsElement g x → OfKind (seeded g x) k
+  seeded-kind kind.Linear q e is =
+      let v = accepted-kind g q e in
+      record {
+        kind = q;
+        width-low = v .width-low;
+        width-high = v .width-high;
+        multiplier-below = v .multiplier-below;
+        increment-below = v .increment-below;
+        seed-below =
+            rw (modulus-linear g q) at (subst (λ (u : ℕ). u < modulus g) (is .yields) (element-below g e (is .index)));
+      }
+  seeded-kind kind.Prime q e is =
+      let v = accepted-kind g q e in
+      record {
+        kind = q;
+        multiplier = v .multiplier;
+        increment = v .increment;
+        seed-low = subst (λ (u : ℕ). 1 ≤ u) (is .yields) (element-low (prime-multiplies v) (is .index));
+        seed-high = prime-below v is;
+      }
+
   seeded-accepted : refusalOf g ≡ 0 → IsElement g x → refusalOf (seeded g x) ≡ 0
-  unfolding modulus
   seeded-accepted e is =
-      accepted-none (seeded g x)
-      (record {
-        width-high = a .width-high;
-        multiplier-below = a .multiplier-below;
-        increment-below = a .increment-below;
-        seed-below = subst (λ (u : ℕ). u < modulus g) (is .yields) (element-below g e (is .index));
-        at-zero =
-            λ z.
-            let fit = a .at-zero z in
-            (fit .0, fit .1, subst (λ (u : ℕ). 1 ≤ u) (is .yields) (element-at-zero g e z (is .index)));
-      })
-    where
-      a : Accepted g
-      a = accepted g e
+      kind-accepted (seeded g x) {k = kindOf g} refl (accepted-width g e) (seeded-kind (kindOf g) refl e is)
 
   pub restarts : {r : Generator} → (refusalOf g ≡ 0) × IsElement g x → r ≡ seeded g x → Restarted g x r
   restarts h q =

@@ -1,8 +1,7 @@
--- `Refusals`, `Replies`, `Elements`, `Walking` and `Table` are for the crates above too.
+-- `Refusals`, `Elements` and `Walking` are for the crates above too.
 pub mod Refusals
 pub mod Elements
 pub mod Walking
 pub mod Trace
-pub mod TraceNumbers
 mod Examples
 mod TraceExamples

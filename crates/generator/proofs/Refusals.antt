@@ -1,63 +1,96 @@
--- The refusal table by cases: what is known of a generator that is refused or accepted.
-use mathlib.Core.Path.{_≡_, refl, sym, ap, subst}
+-- The refusal table by cases on the kind: a generator of width 64 at most is accepted exactly if it is what its kind asks for.
+use mathlib.Core.Path.{_≡_, refl, sym, ap, subst, _∙_}
 use mathlib.Core.Bool.{Bool, true, false, cond, not, _||_, true≢false}
-use mathlib.Core.Logic.{by-cases}
-use Prim.Native.Nat.{ℕ, zero, suc, _^_, _≤_, _<_}
-use native.Mathlib.Decide.{ℕ-discrete}
+use Prim.Native.Nat.{ℕ, zero, suc, _%_, _^_, _≤_, _<_}
 use native.Mathlib.Omega.{arith}
 use lib.Dec.{eqb, leb}
 use lib.Pow.{pow-pos, pow-mono}
 use borrow.Author.Tests.{eq-eqb, ne-eqb, eqb-true, leb-true, lt-leb, le-ltb, leb-false, eqb-false, ltb-false}
-use Rattle.generator.specs.declared.Generator.{Generator}
-use Rattle.generator.specs.Recurrence.{modulusOf, modulus}
-use Rattle.generator.specs.Check.{refusalOf, widthRefused, operandRefused, primeRefused}
-use Rattle.generator.specs.Affine.{Linear}
-use Rattle.generator.specs.Prime.{Prime}
 use Rattle.refusals.proofs.Conditions.{cond-none, or-false}
+use Rattle.generator.specs.declared.Generator.{Generator}
+use Rattle.generator.specs.declared.Kind.{Kind}
+use Rattle.generator.specs.declared.Kind.the-variants as kind
+use Rattle.generator.specs.Recurrence.{kindAt, kindOf, modulusOf, modulus}
+use Rattle.generator.specs.Check.{refusalOf, widthRefused, operandRefused, parityRefusal}
+use Rattle.generator.specs.Linear.{Linear}
+use Rattle.generator.specs.Prime.{Prime}
+use Rattle.generator.specs.Kinds.{OfKind, KindIs}
 
+-- The width of each kind.
+pub linear-kind : (g : Generator) → 1 ≤ g .width → kindOf g ≡ kind.Linear
+linear-kind g = go (g .width)
+  where
+    go : (n : ℕ) → 1 ≤ n → kindAt n ≡ kind.Linear
+    go zero h = absurd (omega arith)
+    go (suc n) h = refl
+
+pub linear-width : (g : Generator) → kindOf g ≡ kind.Linear → 1 ≤ g .width
+linear-width g = go (g .width)
+  where
+    go : (n : ℕ) → kindAt n ≡ kind.Linear → 1 ≤ n
+    go zero h = let z : _≡_ {A = ℕ} 0 1 = cc in absurd (omega arith)
+    go (suc n) h = omega arith
+
+pub prime-width : (g : Generator) → kindOf g ≡ kind.Prime → g .width ≡ 0
+prime-width g = go (g .width)
+  where
+    go : (n : ℕ) → kindAt n ≡ kind.Prime → n ≡ 0
+    go zero h = refl
+    go (suc n) h = let z : _≡_ {A = ℕ} 0 1 = cc in absurd (omega arith)
+
+-- The modulus of each kind; it is not 0.
+pub modulus-linear : (g : Generator) → kindOf g ≡ kind.Linear → modulus g ≡ 2 ^ g .width
+unfolding modulus
+modulus-linear g e = ap (λ (k : Kind). modulusOf k (g .width)) e
+
+pub modulus-prime : (g : Generator) → kindOf g ≡ kind.Prime → modulus g ≡ 2147483647
+unfolding modulus
+modulus-prime g e = ap (λ (k : Kind). modulusOf k (g .width)) e
+
+pub modulus-positive : (g : Generator) → 1 ≤ modulus g
+unfolding modulus
+modulus-positive g = go (kindOf g)
+  where
+    go : (k : Kind) → 1 ≤ modulusOf k (g .width)
+    go kind.Linear = pow-pos (g .width)
+    go kind.Prime = omega arith
+
+-- What the conditions on the operands leave, and that they leave it.
 not-false : (b : Bool) → not b ≡ false → b ≡ true
 not-false true e = refl
 not-false false e = absurd (true≢false e)
 
--- what the table leaves of a generator that is not refused, whatever its kind
-pub record Accepted (g : Generator) : Type 0 where
-  pub width-high : g .width ≤ 64
-  pub multiplier-below : g .multiplier < modulus g
-  pub increment-below : g .increment < modulus g
-  pub seed-below : g .seed < modulus g
-  pub at-zero : g .width ≡ 0 → (g .multiplier ≡ 16807) × (g .increment ≡ 0) × (1 ≤ g .seed)
-
-pub accepted : (g : Generator) → refusalOf g ≡ 0 → Accepted g
-unfolding refusalOf
-accepted g e =
+operands-fit : (g : Generator) (k : Kind) → kindOf g ≡ k → g .width ≤ 64 → operandRefused k g ≡ false → OfKind g k
+operands-fit g kind.Linear q w e =
     record {
-      width-high = ltb-false 64 n (given .0);
-      multiplier-below = leb-false _ _ (operands .0);
-      increment-below = leb-false _ _ (others .0);
-      seed-below = leb-false _ _ (others .1);
-      at-zero = λ z. fit z;
+      kind = q;
+      width-low = linear-width g q;
+      width-high = w;
+      multiplier-below = below (all .0);
+      increment-below = below (others .0);
+      seed-below = below (others .1);
     }
   where
-    n : ℕ
-    n = g .width
+    m : ℕ
+    m = modulus g
 
-    given : (widthRefused n ≡ false) × (_≡_ {A = ℕ} (cond (operandRefused g || primeRefused g) 4 0) 0)
-    given = cond-none (widthRefused n) 2 (cond (operandRefused g || primeRefused g) 4 0) e
+    all : (leb m (g .multiplier) ≡ false) × ((leb m (g .increment) || leb m (g .seed)) ≡ false)
+    all = or-false (leb m (g .multiplier)) (leb m (g .increment) || leb m (g .seed)) e
 
-    both : (operandRefused g ≡ false) × (primeRefused g ≡ false)
-    both =
-        or-false (operandRefused g) (primeRefused g)
-        (cond-none (operandRefused g || primeRefused g) 3 0 (given .1) .0)
+    others : (leb m (g .increment) ≡ false) × (leb m (g .seed) ≡ false)
+    others = or-false (leb m (g .increment)) (leb m (g .seed)) (all .1)
 
-    P : ℕ
-    P = modulus g
-
-    operands : (leb P (g .multiplier) ≡ false) × ((leb P (g .increment) || leb P (g .seed)) ≡ false)
-    operands = or-false (leb P (g .multiplier)) (leb P (g .increment) || leb P (g .seed)) (both .0)
-
-    others : (leb P (g .increment) ≡ false) × (leb P (g .seed) ≡ false)
-    others = or-false (leb P (g .increment)) (leb P (g .seed)) (operands .1)
-
+    below : {u : ℕ} → leb m u ≡ false → u < 2 ^ g .width
+    below {u} h = subst (λ (n : ℕ). u < n) (modulus-linear g q) (leb-false _ _ h)
+operands-fit g kind.Prime q w e =
+    record {
+      kind = q;
+      multiplier = eqb-true _ _ (not-false (eqb (g .multiplier) 16807) (all .0));
+      increment = eqb-true _ _ (not-false (eqb (g .increment) 0) (others .0));
+      seed-low = omega (arith, eqb-false (g .seed) 0 (seed .0));
+      seed-high = subst (λ (n : ℕ). g .seed < n) (modulus-prime g q) (leb-false _ _ (seed .1));
+    }
+  where
     a : Bool
     a = not (eqb (g .multiplier) 16807)
 
@@ -65,143 +98,126 @@ accepted g e =
     c = not (eqb (g .increment) 0)
 
     x : Bool
-    x = eqb (g .seed) 0
+    x = eqb (g .seed) 0 || leb (modulus g) (g .seed)
 
-    fit : n ≡ 0 → (g .multiplier ≡ 16807) × (g .increment ≡ 0) × (1 ≤ g .seed)
-    fit z =
-        let all : (a ≡ false) × ((c || x) ≡ false) = or-false a (c || x) (rw (eq-eqb n 0 z) at (both .1)) in
-        let rest : (c ≡ false) × (x ≡ false) = or-false c x (all .1) in (
-          eqb-true _ _ (not-false (eqb (g .multiplier) 16807) (all .0)),
-          eqb-true _ _ (not-false (eqb (g .increment) 0) (rest .0)),
-          omega (arith, eqb-false (g .seed) 0 (rest .1)),
-        )
+    all : (a ≡ false) × ((c || x) ≡ false)
+    all = or-false a (c || x) e
 
--- and a generator of which that holds is not refused
-pub accepted-none : (g : Generator) → Accepted g → refusalOf g ≡ 0
-unfolding refusalOf
-accepted-none g a =
-    simp (
-      le-ltb 64 (g .width) (a .width-high),
-      lt-leb _ _ (a .multiplier-below),
-      lt-leb _ _ (a .increment-below),
-      lt-leb _ _ (a .seed-below),
-      fit,
-    )
+    others : (c ≡ false) × (x ≡ false)
+    others = or-false c x (all .1)
+
+    seed : (eqb (g .seed) 0 ≡ false) × (leb (modulus g) (g .seed) ≡ false)
+    seed = or-false (eqb (g .seed) 0) (leb (modulus g) (g .seed)) (others .1)
+
+fit-operands : (g : Generator) (k : Kind) → OfKind g k → operandRefused k g ≡ false
+fit-operands g kind.Linear v =
+    simp (test (v .multiplier-below), test (v .increment-below), test (v .seed-below))
   where
-    fit : primeRefused g ≡ false
-    fit =
-        by-cases (ℕ-discrete (g .width) 0)
-        (λ z.
-        let at = a .at-zero z in
-        simp (eq-eqb _ _ z, eq-eqb _ _ (at .0), eq-eqb _ _ (at .1), ne-eqb (g .seed) 0 (λ q. omega (arith, at .2))))
-        (λ d. simp (ne-eqb _ _ d))
-
--- and up to width 64 any other one is refused with 4
-pub refused-four : (g : Generator) → g .width ≤ 64 → (Accepted g → ⊥) → 4 ≡ refusalOf g
-unfolding refusalOf
-refused-four g l unfit = rw (le-ltb 64 (g .width) l) (go (operandRefused g || primeRefused g) refl)
+    test : {u : ℕ} → u < 2 ^ g .width → leb (modulus g) u ≡ false
+    test {u} h = lt-leb _ _ (subst (λ (n : ℕ). u < n) (sym (modulus-linear g (v .kind))) h)
+fit-operands g kind.Prime v =
+    simp (eq-eqb _ _ (v .multiplier), eq-eqb _ _ (v .increment), ne-eqb (g .seed) 0 (λ q. omega (arith, v .seed-low)), high)
   where
-    go : (b : Bool) → (operandRefused g || primeRefused g) ≡ b → _≡_ {A = ℕ} 4 (cond b 4 0)
-    go true e = refl
-    go false e = absurd (unfit (accepted g (rw (le-ltb 64 (g .width) l, e))))
+    high : leb (modulus g) (g .seed) ≡ false
+    high = lt-leb _ _ (subst (λ (n : ℕ). g .seed < n) (sym (modulus-prime g (v .kind))) (v .seed-high))
 
--- the modulus of the linear kind
-pub modulus-linear : (g : Generator) → 1 ≤ g .width → modulus g ≡ 2 ^ g .width
-unfolding modulus
-modulus-linear g = go (g .width)
+-- Accepted is to be what the kind asks for.
+module _ (g : Generator) where
+  given : refusalOf g ≡ 0 →
+      (widthRefused (g .width) ≡ false) × (_≡_ {A = ℕ} (cond (operandRefused (kindOf g) g) 4 0) 0)
+  unfolding refusalOf
+  given e = cond-none (widthRefused (g .width)) 2 (cond (operandRefused (kindOf g) g) 4 0) e
+
+  pub accepted-width : refusalOf g ≡ 0 → g .width ≤ 64
+  accepted-width e = ltb-false 64 (g .width) (given e .0)
+
+  pub accepted-kind : {k : Kind} → kindOf g ≡ k → refusalOf g ≡ 0 → OfKind g k
+  accepted-kind {k} q e =
+      subst (OfKind g) q
+      (operands-fit g (kindOf g) refl (accepted-width e) (cond-none (operandRefused (kindOf g) g) 3 0 (given e .1) .0))
+
+  pub kind-accepted : {k : Kind} → kindOf g ≡ k → g .width ≤ 64 → OfKind g k → refusalOf g ≡ 0
+  unfolding refusalOf
+  kind-accepted {k} q w v = rw (le-ltb 64 (g .width) w, q, fit-operands g k v)
+
+  -- and up to width 64 any other one is refused with 4
+  pub refused-four : {k : Kind} → kindOf g ≡ k → g .width ≤ 64 → (OfKind g k → ⊥) → 4 ≡ refusalOf g
+  unfolding refusalOf
+  refused-four {k} q w unfit = rw (le-ltb 64 (g .width) w, q) (go (operandRefused k g) refl)
+    where
+      go : (b : Bool) → operandRefused k g ≡ b → _≡_ {A = ℕ} 4 (cond b 4 0)
+      go true e = refl
+      go false e = absurd (unfit (operands-fit g k q w e))
+
+-- what `kind_of` finds, and what that says of an accepted generator
+pub kind-is : {g : Generator} {k : Kind} → kindOf g ≡ k → KindIs g k
+kind-is {g} e = record { is = e; of-kind = accepted-kind g e }
+
+pub kind-told : {g : Generator} {r k : Kind} → KindIs g r → r ≡ k → refusalOf g ≡ 0 → OfKind g k
+kind-told {g} is q z = accepted-kind g (is .is ∙ q) z
+
+-- What holds of every kind: the operands are below the modulus, which fits 65 bits, so that they are 64-bit numbers.
+pub record Accepted (g : Generator) : Type 0 where
+  pub width-high : g .width ≤ 64
+  pub multiplier-below : g .multiplier < modulus g
+  pub increment-below : g .increment < modulus g
+  pub seed-below : g .seed < modulus g
+
+pub accepted : (g : Generator) → refusalOf g ≡ 0 → Accepted g
+accepted g z = go (kindOf g) refl
   where
-    go : (n : ℕ) → 1 ≤ n → modulusOf n ≡ 2 ^ n
-    go zero h = absurd (omega arith)
-    go (suc n) h = refl
+    go : (k : Kind) → kindOf g ≡ k → Accepted g
+    go kind.Linear q =
+        let v = accepted-kind g q z in
+        record {
+          width-high = v .width-high;
+          multiplier-below = rw (modulus-linear g q) (v .multiplier-below);
+          increment-below = rw (modulus-linear g q) (v .increment-below);
+          seed-below = rw (modulus-linear g q) (v .seed-below);
+        }
+    go kind.Prime q =
+        let v = accepted-kind g q z in
+        record {
+          width-high = accepted-width g z;
+          multiplier-below = rw (modulus-prime g q) (omega (arith, v .multiplier));
+          increment-below = rw (modulus-prime g q) (omega (arith, v .increment));
+          seed-below = rw (modulus-prime g q) (v .seed-high);
+        }
 
--- every modulus fits 65 bits, so each operand is a 64-bit number
 pub modulus-word : (g : Generator) → refusalOf g ≡ 0 → modulus g ≤ 2 ^ 64
-unfolding modulus
-modulus-word g e = go (g .width) (accepted g e .width-high)
+modulus-word g z = go (kindOf g) refl
   where
-    go : (n : ℕ) → n ≤ 64 → modulusOf n ≤ 2 ^ 64
-    go zero h = omega arith
-    go (suc n) h = pow-mono h
+    go : (k : Kind) → kindOf g ≡ k → modulus g ≤ 2 ^ 64
+    go kind.Linear q = rw (modulus-linear g q) (pow-mono (accepted-width g z))
+    go kind.Prime q = rw (modulus-prime g q) (omega arith)
 
-pub modulus-positive : (g : Generator) → 1 ≤ modulus g
-unfolding modulus
-modulus-positive g = go (g .width)
-  where
-    go : (n : ℕ) → 1 ≤ modulusOf n
-    go zero = omega arith
-    go (suc n) = pow-pos (suc n)
+-- The conditions of each kind, as the program tests them.
+pub wide-unfit : (m x : ℕ) → leb m x ≡ true → x < m → ⊥
+wide-unfit m x e h = omega (arith, leb-true m x e)
 
--- the linear kind
-pub linear : (g : Generator) → refusalOf g ≡ 0 → (g .width ≡ 0 → ⊥) → Linear g
-linear g e nonzero =
-    record {
-      width-low = low;
-      width-high = a .width-high;
-      multiplier-below = below (a .multiplier-below);
-      increment-below = below (a .increment-below);
-      seed-below = below (a .seed-below);
-    }
-  where
-    a : Accepted g
-    a = accepted g e
-
-    low : 1 ≤ g .width
-    low = omega (arith, nonzero)
-
-    below : {u : ℕ} → u < modulus g → u < 2 ^ g .width
-    below {u} h = subst (λ (m : ℕ). u < m) (modulus-linear g low) h
-
--- its conditions on the operands, as the program tests them
-pub wide-unfit : (g : Generator) {x : ℕ} → 1 ≤ g .width → leb (2 ^ g .width) x ≡ true → x < modulus g → ⊥
-wide-unfit g {x} low e h = omega (arith, leb-true (2 ^ g .width) x e, subst (λ (m : ℕ). x < m) (modulus-linear g low) h)
-
-pub linear-fits : (g : Generator) → (1 ≤ g .width) × (g .width ≤ 64) → leb (2 ^ g .width) (g .multiplier) ≡ false →
-    leb (2 ^ g .width) (g .increment) ≡ false → leb (2 ^ g .width) (g .seed) ≡ false → 0 ≡ refusalOf g
+pub linear-fits : (g : Generator) → (kindOf g ≡ kind.Linear) × (g .width ≤ 64) →
+    leb (2 ^ g .width) (g .multiplier) ≡ false → leb (2 ^ g .width) (g .increment) ≡ false →
+    leb (2 ^ g .width) (g .seed) ≡ false → 0 ≡ refusalOf g
 linear-fits g w a c x =
     sym
-    (accepted-none g
+    (kind-accepted g (w .0) (w .1)
     (record {
+      kind = w .0;
+      width-low = linear-width g (w .0);
       width-high = w .1;
-      multiplier-below = below a;
-      increment-below = below c;
-      seed-below = below x;
-      at-zero = λ z. absurd (omega (arith, w .0));
+      multiplier-below = leb-false _ _ a;
+      increment-below = leb-false _ _ c;
+      seed-below = leb-false _ _ x;
     }))
-  where
-    below : {u : ℕ} → leb (2 ^ g .width) u ≡ false → u < modulus g
-    below {u} e = subst (λ (m : ℕ). u < m) (sym (modulus-linear g (w .0))) (leb-false _ _ e)
 
--- the prime-modulus models
-pub modulus-prime : (g : Generator) → g .width ≡ 0 → modulus g ≡ 2147483647
-unfolding modulus
-modulus-prime g z = ap modulusOf z
-
-pub prime : (g : Generator) → refusalOf g ≡ 0 → g .width ≡ 0 → Prime g
-prime g e z =
-    record {
-      width = z;
-      multiplier = fit .0;
-      increment = fit .1;
-      seed-low = fit .2;
-      seed-high = subst (λ (m : ℕ). g .seed < m) (modulus-prime g z) (accepted g e .seed-below);
-    }
-  where
-    fit : (g .multiplier ≡ 16807) × (g .increment ≡ 0) × (1 ≤ g .seed)
-    fit = accepted g e .at-zero z
-
--- and their conditions on the operands
-pub prime-fits : (g : Generator) → g .width ≡ 0 → g .multiplier ≡ 16807 → g .increment ≡ 0 → (g .seed ≡ 0 → ⊥) →
-    g .seed ≤ 2147483646 → 0 ≡ refusalOf g
-prime-fits g w a c nonzero high =
+pub prime-fits : (g : Generator) → kindOf g ≡ kind.Prime → g .multiplier ≡ 16807 → g .increment ≡ 0 →
+    (g .seed ≡ 0 → ⊥) → g .seed ≤ 2147483646 → 0 ≡ refusalOf g
+prime-fits g q a c nonzero high =
     sym
-    (accepted-none g
-    (record {
-      width-high = omega (arith, w);
-      multiplier-below = below (omega (arith, a));
-      increment-below = below (omega (arith, c));
-      seed-below = below (omega (arith, high));
-      at-zero = λ z. (a, c, omega (arith, nonzero));
-    }))
-  where
-    below : {u : ℕ} → u < 2147483647 → u < modulus g
-    below {u} l = subst (λ (m : ℕ). u < m) (sym (modulus-prime g w)) l
+    (kind-accepted g q (omega (arith, prime-width g q))
+    (record { kind = q; multiplier = a; increment = c; seed-low = omega (arith, nonzero); seed-high = omega arith }))
+
+-- A multiplier that is not even is odd.
+pub parity-odd : (g : Generator) → parityRefusal g ≡ 0 → g .multiplier % 2 ≡ 1
+unfolding parityRefusal
+parity-odd g e = omega (arith, eqb-false (g .multiplier % 2) 0 (cond-none (eqb (g .multiplier % 2) 0) 6 0 e .0))

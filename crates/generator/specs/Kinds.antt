@@ -2,8 +2,22 @@
 use mathlib.Core.Path.{_≡_}
 use Prim.Native.Nat.{ℕ, _+_}
 use Rattle.generator.specs.declared.Generator.{Generator}
-use Rattle.generator.specs.Recurrence.{element}
+use Rattle.generator.specs.declared.Kind.{Kind}
+use Rattle.generator.specs.declared.Kind.the-variants as kind
+use Rattle.generator.specs.Recurrence.{kindOf, element}
 use Rattle.generator.specs.Check.{refusalOf}
+use Rattle.generator.specs.Linear.{Linear}
+use Rattle.generator.specs.Prime.{Prime}
+
+-- An accepted generator of that kind.
+abbrev pub OfKind : Generator → Kind → Type 0
+OfKind g kind.Linear = Linear g
+OfKind g kind.Prime = Prime g
+
+-- r is the kind of g, and says what is known of it if it is accepted.
+pub record KindIs (g : Generator) (r : Kind) : Type 0 where
+  pub is : kindOf g ≡ r
+  pub of-kind : refusalOf g ≡ 0 → OfKind g r
 
 -- x is one of the elements.
 pub record IsElement (g : Generator) (x : ℕ) : Type 0 where

@@ -1,10 +1,11 @@
-// One door to the kinds of generator. For the crates above are `value_of`, `next_of` and `restarted`: a generator has to be
-// accepted, and nothing else is asked of it. The others are for the calls of this crate.
+// Functions that choose by kind. All they ask is that the generator is accepted.
 ghost use mathlib.Core.Path.{_≡_};
 ghost use Rattle.generator.specs.Recurrence.{element, step};
 ghost use Rattle.generator.specs.Check.{refusalOf};
 ghost use Rattle.generator.specs.Kinds.{IsElement, Restarted};
 use crate::Generator;
+use crate::Kind;
+use crate::kind_of;
 use crate::linear;
 use crate::prime;
 
@@ -13,10 +14,11 @@ pub fn value_of(g: Generator, index: u64) -> u64
     requires { ⌜ refusalOf g ≡ 0 ⌝ }
     ensures { λ r. ⌜ r ≡ element g index ⌝ }
 {
-    if g.width == 0 {
-        return prime::element_at(g, index);
+    let kind = kind_of(g);
+    match kind {
+        Kind::Linear => linear::element_at(g, index),
+        Kind::Prime => prime::element_at(g, index),
     }
-    linear::element_at(g, index)
 }
 
 // The element one step after the element x.
@@ -24,10 +26,11 @@ pub fn next_of(g: Generator, x: u64) -> u64
     requires { ⌜ (refusalOf g ≡ 0) × (IsElement g x) ⌝ }
     ensures { λ r. ⌜ r ≡ step g x ⌝ }
 {
-    if g.width == 0 {
-        return prime::next(g, x);
+    let kind = kind_of(g);
+    match kind {
+        Kind::Linear => linear::next(g, x),
+        Kind::Prime => prime::next(g, x),
     }
-    linear::next(g, x)
 }
 
 // The same generator with its element x for its seed.

@@ -1,9 +1,7 @@
--- `Runs`, `Reading` and `RoundTrip` are for the crates above too.
-pub mod Runs
+-- `Lines`, `Reading` and `RoundTrip` are for the crates above too.
+pub mod Lines
 pub mod Reading
 pub mod RoundTrip
 mod Written
-mod Remaking
 mod Examples
 mod ReadExamples
-mod RemakeExamples

@@ -4,11 +4,11 @@ use mathlib.Core.List.{[], _∷_, map}
 use Rattle.generator.specs.Recurrence.{modulus}
 use Rattle.generator.specs.Check.{refusalOf}
 use Rattle.fields.specs.Ascii.{ascii}
-use Rattle.fields.specs.Digits.{lastDigits, digitsOf}
+use Rattle.decimals.specs.Digits.{lastDigits, digitsOf}
 use Rattle.fields.specs.Line.{fieldsLine, numbersFrom, isLine}
-use Rattle.lines.specs.Run.{runRefusal}
+use Rattle.runs.specs.Run.{runRefusal}
 use Rattle.lines.specs.ReadLine.{acceptedRun, refusedRun, readOf}
-use Rattle.lines.proofs.Examples.{run}
+use Rattle.runs.proofs.Examples.{run}
 
 -- document 01's two lines
 lines :

@@ -13,35 +13,36 @@ use Rattle.refusals.proofs.Replies.{number-suc}
 use Rattle.fields.specs.Line.{AllBelow, fieldsLine, numbersFrom, isLine}
 use Rattle.fields.specs.Codec.{LineRead}
 use Rattle.fields.proofs.Numbers.{numbers-line, line-injective, is-line, line-is, no-test}
-use Rattle.lines.specs.declared.Run.{Run}
+use Rattle.runs.specs.declared.Run.{Run}
 use Rattle.lines.specs.declared.RunAnswer.{RunAnswer}
 use Rattle.lines.specs.declared.RunAnswer.the-variants.{Accepted, Refused}
-use Rattle.lines.specs.Run.{runRefusal}
-use Rattle.lines.specs.Line.{numbersOf, lineOf, runAt}
-use Rattle.lines.proofs.Runs.{valid-run, valid-words}
+use Rattle.runs.specs.Run.{runRefusal}
+use Rattle.lines.specs.Line.{numbersOf, lineOf, runOf}
+use Rattle.runs.proofs.Runs.{valid-run}
+use Rattle.lines.proofs.Lines.{valid-words}
 use Rattle.lines.specs.declared.RunReply.{RunReply}
-use Rattle.lines.specs.ReadLine.{IsLine, ReadPromise, acceptedRun, refusedRun, replyOf, runReply, runIn, readOf}
+use Rattle.lines.specs.ReadLine.{IsLine, ReadPromise, refusedRun, plainRun, runReply, runIn, readOf}
 
 -- two runs with the same line are the same run
 pub line-run : {run other : Run} → lineOf run ≡ lineOf other → run ≡ other
-line-run e = ap runAt (line-injective _ _ e)
+line-run e = ap runOf (line-injective _ _ e)
 
 -- the six numbers of the run of six numbers
-six : (vs : List ℕ) → length vs ≡ 6 → numbersOf (runAt vs) ≡ vs
-six [] e = absurd (omega arith)
-six (a ∷ []) e = absurd (omega arith)
-six (a ∷ b ∷ []) e = absurd (omega arith)
-six (a ∷ b ∷ c ∷ []) e = absurd (omega arith)
-six (a ∷ b ∷ c ∷ d ∷ []) e = absurd (omega arith)
-six (a ∷ b ∷ c ∷ d ∷ f ∷ []) e = absurd (omega arith)
-six (a ∷ b ∷ c ∷ d ∷ f ∷ g ∷ []) e = refl
-six (a ∷ b ∷ c ∷ d ∷ f ∷ g ∷ h ∷ l) e = absurd (omega arith)
+numbers-back : (vs : List ℕ) → length vs ≡ 6 → numbersOf (runOf vs) ≡ vs
+numbers-back [] e = absurd (omega arith)
+numbers-back (a ∷ []) e = absurd (omega arith)
+numbers-back (a ∷ b ∷ []) e = absurd (omega arith)
+numbers-back (a ∷ b ∷ c ∷ []) e = absurd (omega arith)
+numbers-back (a ∷ b ∷ c ∷ d ∷ []) e = absurd (omega arith)
+numbers-back (a ∷ b ∷ c ∷ d ∷ f ∷ []) e = absurd (omega arith)
+numbers-back (a ∷ b ∷ c ∷ d ∷ f ∷ g ∷ []) e = refl
+numbers-back (a ∷ b ∷ c ∷ d ∷ f ∷ g ∷ h ∷ l) e = absurd (omega arith)
 
 -- bytes that are a line, and any others
 in-line : {bytes : List ℕ} → isLine 6 bytes ≡ true → IsLine bytes (runIn bytes)
 in-line {bytes} t =
     let l = is-line 6 t in
-    let e = sym (six (numbersFrom 0 bytes) (l .count)) in
+    let e = sym (numbers-back (numbersFrom 0 bytes) (l .count)) in
     record { words = subst (AllBelow (2 ^ 64)) e (l .small); line = l .line ∙ ap fieldsLine e }
 
 read-lines : (bytes : List ℕ) → isLine 6 bytes ≡ true → readOf bytes ≡ runReply (runRefusal (runIn bytes)) (runIn bytes)
@@ -53,10 +54,10 @@ unfolding readOf
 read-others bytes t = rw (t, readOf)
 
 -- The line of a run reads as that run or its refusal.
-pub read-of : {bytes : List ℕ} {run : Run} → IsLine bytes run → readOf bytes ≡ runReply (runRefusal run) run
+read-of : {bytes : List ℕ} {run : Run} → IsLine bytes run → readOf bytes ≡ runReply (runRefusal run) run
 read-of {bytes} {run} h =
     read-lines bytes (line-is 6 (numbersOf run) refl (h .words) (h .line))
-    ∙ ap (λ (r : Run). runReply (runRefusal r) r) (ap (λ (bs : List ℕ). runIn bs) (h .line) ∙ ap runAt (numbers-line (numbersOf run)))
+    ∙ ap (λ (r : Run). runReply (runRefusal r) r) (ap (λ (bs : List ℕ). runIn bs) (h .line) ∙ ap runOf (numbers-line (numbersOf run)))
 
 reply-refusal : (n : ℕ) (run : Run) → runReply n run .refusal ≡ n
 reply-refusal zero run = refl
@@ -66,20 +67,30 @@ reply-run : {n : ℕ} (run : Run) → n ≡ 0 → runReply n run .run ≡ run
 reply-run run e = rw e
 
 -- an accepted line is the line of the run in it, which is accepted
-pub accepted-line : (bytes : List ℕ) → readOf bytes .refusal ≡ 0 → (runRefusal (runIn bytes) ≡ 0) × IsLine bytes (runIn bytes)
-accepted-line bytes z = go (isLine 6 bytes) refl
+accepted-is-line : (bytes : List ℕ) → readOf bytes .refusal ≡ 0 → isLine 6 bytes ≡ true
+accepted-is-line bytes z = go (isLine 6 bytes) refl
   where
-    go : (t : Bool) → isLine 6 bytes ≡ t → (runRefusal (runIn bytes) ≡ 0) × IsLine bytes (runIn bytes)
-    go true t =
-        (sym (ap (λ (r : RunReply). r .refusal) (read-lines bytes t) ∙ reply-refusal _ (runIn bytes)) ∙ z, in-line t)
+    go : (t : Bool) → isLine 6 bytes ≡ t → isLine 6 bytes ≡ true
+    go true t = t
     go false t = absurd (omega (arith, ap (λ (r : RunReply). r .refusal) (read-others bytes t)))
 
+pub accepted-line : (bytes : List ℕ) → readOf bytes .refusal ≡ 0 → (runRefusal (runIn bytes) ≡ 0) × IsLine bytes (runIn bytes)
+accepted-line bytes z =
+    let t = accepted-is-line bytes z in
+    (sym (ap (λ (r : RunReply). r .refusal) (read-lines bytes t) ∙ reply-refusal _ (runIn bytes)) ∙ z, in-line t)
+
+-- so it is read as that run
+pub accepted-run : (bytes : List ℕ) → readOf bytes .refusal ≡ 0 → readOf bytes .run ≡ runIn bytes
+accepted-run bytes z =
+    let a = accepted-line bytes z in
+    ap (λ (r : RunReply). r .run) (read-of (a .1)) ∙ reply-run (runIn bytes) (a .0)
+
 -- and the line of an accepted run reads as that run
-pub own-line : (run : Run) → runRefusal run ≡ 0 → IsLine (lineOf run) run
+own-line : (run : Run) → runRefusal run ≡ 0 → IsLine (lineOf run) run
 own-line run z = record { words = valid-words (valid-run run z); line = refl }
 
 pub own-run : (run : Run) → runIn (lineOf run) ≡ run
-own-run run = ap runAt (numbers-line (numbersOf run))
+own-run run = ap runOf (numbers-line (numbersOf run))
 
 pub own-accepted : (run : Run) → runRefusal run ≡ 0 → readOf (lineOf run) .refusal ≡ 0
 own-accepted run z = ap (λ (r : RunReply). r .refusal) (read-of (own-line run z)) ∙ reply-refusal _ run ∙ z
@@ -91,42 +102,36 @@ read-kept bytes =
       of-line = λ run h. read-of h;
       of-others = λ f. read-others bytes (no-test (isLine 6 bytes) (λ t. f (runIn bytes) (in-line t)));
       accepted = λ z.
-          let a = accepted-line bytes z in
-          subst (IsLine bytes) (sym (ap (λ (r : RunReply). r .run) (read-of (a .1)) ∙ reply-run (runIn bytes) (a .0))) (a .1);
+          subst (IsLine bytes) (sym (accepted-run bytes z)) (accepted-line bytes z .1);
     }
 
 read-promise : {bytes : List ℕ} {reply : RunReply} → reply ≡ readOf bytes → ReadPromise bytes reply
 read-promise {bytes} e = subst (ReadPromise bytes) (sym e) (read-kept bytes)
 
--- an accepted line's run is accepted, and is the one in the bytes
-pub read-run : {bytes : List ℕ} {run : Run} → ReadPromise bytes (acceptedRun run) → runRefusal run ≡ 0
-read-run {run = run} r =
-    sym (ap (λ (reply : RunReply). reply .refusal) (r .of-line run (r .accepted refl)) ∙ reply-refusal _ run)
-
-pub read-same-run : {bytes : List ℕ} {run : Run} → ReadPromise bytes (acceptedRun run) → runIn bytes ≡ run
-read-same-run {bytes} {run} r =
-    ap (λ (bs : List ℕ). runIn bs) (r .accepted refl .line) ∙ own-run run
-
 -- the promise of an answer that is known
-pub read-as : {bytes : List ℕ} {a : RunAnswer} (b : RunAnswer) → a ≡ b → ReadPromise bytes (replyOf a) → ReadPromise bytes (replyOf b)
-read-as {bytes} b e r = subst (λ (c : RunAnswer). ReadPromise bytes (replyOf c)) e r
+pub read-as : {bytes : List ℕ} {a : RunAnswer} (b : RunAnswer) → a ≡ b → ReadPromise bytes (plainRun a) → ReadPromise bytes (plainRun b)
+read-as {bytes} b e r = subst (λ (c : RunAnswer). ReadPromise bytes (plainRun c)) e r
 
 -- The ways out of the call.
-module _ {bytes before numbers : List ℕ} {answer : Bool} (l : LineRead bytes before numbers answer) (six : length before ≡ 6) where
+module _ {bytes before numbers : List ℕ} {answer : Bool} (l : LineRead bytes before numbers answer) (room : length before ≡ 6) where
   is : isLine 6 bytes ≡ answer
-  is = ap (λ (n : ℕ). isLine n bytes) (sym six) ∙ sym (l .is-line)
+  is = ap (λ (n : ℕ). isLine n bytes) (sym room) ∙ sym (l .is-line)
 
-  pub read-malformed : answer ≡ false → ReadPromise bytes (replyOf (Refused MalformedLine))
+  pub read-malformed : answer ≡ false → ReadPromise bytes (plainRun (Refused MalformedLine))
   read-malformed f = read-promise (sym (read-others bytes (is ∙ f)))
 
-  module _ {run : Run} (t : answer ≡ true) (e : run ≡ runAt numbers) where
+  module _ {run : Run} (t : answer ≡ true) (e : run ≡ runOf numbers) where
     read : readOf bytes ≡ runReply (runRefusal run) run
     read =
         read-lines bytes (is ∙ t)
-        ∙ ap (λ (r : Run). runReply (runRefusal r) r) (ap runAt (sym (l .numbers t)) ∙ sym e)
+        ∙ ap (λ (r : Run). runReply (runRefusal r) r) (ap runOf (sym (l .numbers t)) ∙ sym e)
 
-    pub read-refused : (x : Refusal) → numberOf x ≡ runRefusal run → ReadPromise bytes (replyOf (Refused x))
+    pub read-refused : (x : Refusal) → numberOf x ≡ runRefusal run → ReadPromise bytes (plainRun (Refused x))
     read-refused x r = read-promise (sym (read ∙ let j = number-suc x in rw (← r, j .1)))
 
-    pub read-accepted : runRefusal run ≡ 0 → ReadPromise bytes (replyOf (Accepted run))
+    pub read-accepted : runRefusal run ≡ 0 → ReadPromise bytes (plainRun (Accepted run))
     read-accepted r = read-promise (sym (read ∙ rw r))
+
+  -- of a line that is known to be accepted the numbers read are those of its run
+  pub read-known : {run : Run} → readOf bytes .refusal ≡ 0 → run ≡ runOf numbers → run ≡ runIn bytes
+  read-known z e = e ∙ ap runOf (l .numbers (sym is ∙ accepted-is-line bytes z))

@@ -17,13 +17,14 @@ use Rattle.refusals.specs.declared.ValueReply.{ValueReply}
 use Rattle.refusals.specs.Replies.{valueReply, plainValue}
 use Rattle.refusals.proofs.Conditions.{or-else-none}
 use Rattle.refusals.proofs.Replies.{number-suc}
-use Rattle.lines.specs.declared.Run.{Run}
-use Rattle.lines.specs.Run.{runRefusal}
+use Rattle.runs.specs.declared.Run.{Run}
+use Rattle.runs.specs.Run.{runRefusal}
 use Rattle.lines.specs.Line.{lineOf}
 use Rattle.lines.specs.declared.RunReply.{RunReply}
 use Rattle.lines.specs.ReadLine.{ReadPromise, acceptedRun, refusedRun, runReply}
 use Rattle.lines.specs.WriteLine.{writeRefusal, bufferAfter, WritePromise}
-use Rattle.lines.proofs.Runs.{valid-run, valid-words, line-short}
+use Rattle.runs.proofs.Runs.{valid-run}
+use Rattle.lines.proofs.Lines.{valid-words, line-short}
 
 -- the refusal and the value that a reply carries
 reply-refusal : (n v : ℕ) → valueReply n v .refusal ≡ n
@@ -39,18 +40,18 @@ module _ {run : Run} {before after : List ℕ} {wrote : ValueReply} (w : WritePr
   accepted : writeRefusal run before ≡ 0
   accepted = sym (ap (λ (r : ValueReply). r .refusal) (w .equals) ∙ reply-refusal _ _) ∙ z
 
-  pub written-run : runRefusal run ≡ 0
+  written-run : runRefusal run ≡ 0
   unfolding writeRefusal
   written-run = or-else-none (runRefusal run) _ accepted .0
 
-  pub written-line : take (wrote .value) after ≡ lineOf run
+  written-line : take (wrote .value) after ≡ lineOf run
   written-line =
       ap₂ take (ap (λ (r : ValueReply). r .value) (w .equals) ∙ reply-value _ accepted)
       (w .buffer ∙ ap (λ (n : ℕ). bufferAfter n run before) accepted)
       ∙ take-at (lineOf run) _ (length (lineOf run)) refl
 
 -- what was written reads as the run that was written
-pub written-reads :
+written-reads :
     {run : Run} {before after : List ℕ} {wrote : ValueReply} {reads : RunReply} →
     WritePromise run before after wrote →
     wrote .refusal ≡ 0 →
@@ -61,7 +62,7 @@ written-reads {run} w z r =
     ∙ ap (λ (n : ℕ). runReply n run) (written-run w z)
 
 -- an accepted line is the one that the writer makes of the run read, whatever the buffer held before
-pub read-writes :
+read-writes :
     {bytes before after : List ℕ} {wrote : ValueReply} {reads : RunReply} →
     ReadPromise bytes reads →
     reads .refusal ≡ 0 →

@@ -13,8 +13,8 @@ use Rattle.refusals.specs.declared.ValueAnswer.the-variants.{Value, Refused}
 use Rattle.refusals.specs.Refusals.{numberOf}
 use Rattle.refusals.specs.Replies.{plainValue}
 use Rattle.refusals.proofs.Replies.{number-suc, value-refused, value-given}
-use Rattle.lines.specs.declared.Run.{Run}
-use Rattle.lines.specs.Run.{runRefusal}
+use Rattle.runs.specs.declared.Run.{Run}
+use Rattle.runs.specs.Run.{runRefusal}
 use Rattle.lines.specs.Line.{numbersOf, lineOf}
 use Rattle.lines.specs.WriteLine.{writeRefusal, WritePromise}
 

@@ -1,7 +1,4 @@
 -- What the contracts of this crate cite, and all that has to be believed of the calls.
-pub mod Run
 pub mod Line
 pub mod ReadLine
 pub mod WriteLine
-pub mod Variety
-pub mod Remake

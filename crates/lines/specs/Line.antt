@@ -3,7 +3,7 @@ use mathlib.Core.List.{List, [], _∷_}
 use Prim.Native.Nat.{ℕ, _^_}
 use lib.ListN.{getD}
 use Rattle.fields.specs.Line.{AllBelow, fieldsLine}
-use Rattle.lines.specs.declared.Run.{Run}
+use Rattle.runs.specs.declared.Run.{Run}
 
 -- The six numbers, in their order.
 abbrev pub numbersOf : Run → List ℕ
@@ -20,8 +20,8 @@ abbrev pub lineOf : Run → List ℕ
 lineOf run = fieldsLine (numbersOf run)
 
 -- The run of six numbers.
-abbrev pub runAt : List ℕ → Run
-runAt vs =
+abbrev pub runOf : List ℕ → Run
+runOf vs =
     record {
       generator =
           record { width = getD vs 0 0; multiplier = getD vs 1 0; increment = getD vs 2 0; seed = getD vs 3 0 };
@@ -30,8 +30,8 @@ runAt vs =
     }
 
 -- The six numbers are unsigned 64-bit numbers.
-abbrev pub Words : Run → Type 0
-Words run = AllBelow (2 ^ 64) (numbersOf run)
+abbrev pub FitsWords : Run → Type 0
+FitsWords run = AllBelow (2 ^ 64) (numbersOf run)
 
 -- The run of zeros, which stands in for one that is not there.
 abbrev pub noRun : Run

@@ -5,11 +5,11 @@ use mathlib.Core.List.{List}
 use Prim.Native.Nat.{ℕ, zero, suc}
 use Rattle.fields.specs.Line.{numbersFrom, isLine}
 use Rattle.refusals.specs.Refusals.{numberOf}
-use Rattle.lines.specs.declared.Run.{Run}
+use Rattle.runs.specs.declared.Run.{Run}
 use Rattle.lines.specs.declared.RunAnswer.{RunAnswer}
 use Rattle.lines.specs.declared.RunAnswer.the-variants.{Accepted, Refused}
-use Rattle.lines.specs.Run.{runRefusal}
-use Rattle.lines.specs.Line.{lineOf, runAt, Words, noRun}
+use Rattle.runs.specs.Run.{runRefusal}
+use Rattle.lines.specs.Line.{lineOf, runOf, FitsWords, noRun}
 use Rattle.lines.specs.declared.RunReply.{RunReply}
 
 -- The reply with a run, and with a refusal's number: beside that the run's six numbers are 0.
@@ -24,13 +24,13 @@ runReply zero run = acceptedRun run
 runReply (suc n) run = refusedRun (suc n)
 
 -- What an answer says.
-abbrev pub replyOf : RunAnswer → RunReply
-replyOf (Accepted run) = acceptedRun run
-replyOf (Refused r) = refusedRun (numberOf r)
+abbrev pub plainRun : RunAnswer → RunReply
+plainRun (Accepted run) = acceptedRun run
+plainRun (Refused r) = refusedRun (numberOf r)
 
 -- The run whose line the bytes are, if they are one.
 abbrev pub runIn : List ℕ → Run
-runIn bytes = runAt (numbersFrom 0 bytes)
+runIn bytes = runOf (numbersFrom 0 bytes)
 
 -- Bytes that are no line are 2; a line gives its run, or 3 to 5.
 unfoldable pub readOf : List ℕ → RunReply
@@ -39,7 +39,7 @@ readOf bytes =
 
 -- The bytes are the line of the run.
 pub record IsLine (bytes : List ℕ) (run : Run) : Type 0 where
-  pub words : Words run
+  pub words : FitsWords run
   pub line : bytes ≡ lineOf run
 
 -- The promise of the call. What it means: bytes that are a line give its run, or 3 to 5; any others give 2; and an accepted

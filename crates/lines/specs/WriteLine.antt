@@ -8,8 +8,8 @@ use lib.ListN.{length, drop}
 use Rattle.refusals.specs.Refusals.{orElse}
 use Rattle.refusals.specs.declared.ValueReply.{ValueReply}
 use Rattle.refusals.specs.Replies.{valueReply}
-use Rattle.lines.specs.declared.Run.{Run}
-use Rattle.lines.specs.Run.{runRefusal}
+use Rattle.runs.specs.declared.Run.{Run}
+use Rattle.runs.specs.Run.{runRefusal}
 use Rattle.lines.specs.Line.{lineOf}
 
 -- After 3 to 5, 8: the buffer is shorter than the line.

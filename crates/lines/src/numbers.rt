@@ -1,12 +1,12 @@
 // A run as the six numbers of its line.
 ghost use mathlib.Core.Path.{_≡_};
-ghost use Rattle.lines.specs.Line.{numbersOf, runAt};
-use crate::Run;
+ghost use Rattle.lines.specs.Line.{numbersOf, runOf};
 use generator::Generator;
+use runs::Run;
 
 // The run of six numbers.
 pub fn run_of(numbers: [u64; 6]) -> Run
-    ensures { λ r. ⌜ r ≡ runAt numbers ⌝ }
+    ensures { λ r. ⌜ r ≡ runOf numbers ⌝ }
 {
     let generator = Generator {
         width: numbers[0],

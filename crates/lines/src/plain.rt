@@ -1,11 +1,11 @@
 // Answers in plain numbers.
 ghost use mathlib.Core.Path.{_≡_};
-ghost use Rattle.lines.specs.ReadLine.{replyOf};
-use crate::Run;
+ghost use Rattle.lines.specs.ReadLine.{plainRun};
 use crate::RunAnswer;
 use crate::RunReply;
 use generator::Generator;
 use refusals::number;
+use runs::Run;
 
 // The run of zeros.
 const NO_RUN: Run = Run {
@@ -20,7 +20,7 @@ const NO_RUN: Run = Run {
 };
 
 pub fn of_run(answer: RunAnswer) -> RunReply
-    ensures { λ r. ⌜ r ≡ replyOf answer ⌝ }
+    ensures { λ r. ⌜ r ≡ plainRun answer ⌝ }
 {
     match answer {
         RunAnswer::Accepted(run) => RunReply { refusal: 0, run },

@@ -8,34 +8,34 @@ ghost use Rattle.predecessors.specs.Predecessor.{PredecessorPromise};
 ghost use Rattle.customary.specs.Customary.{CustomaryPromise};
 ghost use Rattle.orbits.specs.Orbit.{OrbitPromise};
 ghost use Rattle.orbits.specs.Index.{IndexPromise};
-ghost use Rattle.orbits.specs.Gap.{GapPromise};
-ghost use Rattle.orbits.specs.Places.{PlacesPromise};
+ghost use Rattle.gaps.specs.Gap.{GapPromise};
+ghost use Rattle.low_places.specs.Places.{PlacesPromise};
 ghost use Rattle.lines.specs.ReadLine.{ReadPromise};
 ghost use Rattle.lines.specs.WriteLine.{WritePromise};
-ghost use Rattle.lines.specs.Variety.{VarietyPromise};
-ghost use Rattle.lines.specs.Remake.{RemakePromise};
+ghost use Rattle.variety.specs.Variety.{VarietyPromise};
+ghost use Rattle.remake.specs.Remake.{RemakePromise};
 ghost use Rattle.archive.specs.Line.{PartPromise};
-ghost use Rattle.archive.specs.Lookup.{LookupPromise};
-ghost use Rattle.archive.specs.Summary.{SummaryPromise};
-use archive::LookupReply;
+ghost use Rattle.lookup.specs.Lookup.{LookupPromise};
+ghost use Rattle.summary.specs.Summary.{SummaryPromise};
 use archive::Part;
-use archive::SummaryReply;
-use archive::plain::of_lookup;
-use archive::plain::of_summary;
+use gaps::GapReply;
+use gaps::plain::of_gap;
 use generator::Generator;
-use lines::Run;
 use lines::RunReply;
 use lines::plain::of_run;
-use orbits::GapReply;
+use lookup::LookupReply;
+use lookup::plain::of_lookup;
+use low_places::PlacesReply;
+use low_places::plain::of_places;
 use orbits::IndexReply;
 use orbits::OrbitReply;
-use orbits::PlacesReply;
-use orbits::plain::of_gap;
 use orbits::plain::of_index;
 use orbits::plain::of_orbit;
-use orbits::plain::of_places;
 use refusals::ValueReply;
 use refusals::of_value;
+use runs::Run;
+use summary::SummaryReply;
+use summary::plain::of_summary;
 
 // The element at this index.
 #[no_mangle]
@@ -66,7 +66,7 @@ pub extern "C" fn np_index(g: Generator, value: u64) -> IndexReply
 pub extern "C" fn np_index_places(g: Generator, places: u64, value: u64) -> PlacesReply
     ensures { λ r. ⌜ PlacesPromise g places value r ⌝ }
 {
-    of_places(orbits::index_places(g, places, value))
+    of_places(low_places::index_places(g, places, value))
 }
 
 // The steps from one number to another, back where they are negative, or never.
@@ -74,7 +74,7 @@ pub extern "C" fn np_index_places(g: Generator, places: u64, value: u64) -> Plac
 pub extern "C" fn np_gap(g: Generator, from: u64, to: u64) -> GapReply
     ensures { λ r. ⌜ GapPromise g from to r ⌝ }
 {
-    of_gap(orbits::gap(g, from, to))
+    of_gap(gaps::gap(g, from, to))
 }
 
 // The only number that one step takes to this one.
@@ -98,7 +98,7 @@ pub extern "C" fn np_customary_multiplier(width: u64) -> ValueReply
 pub extern "C" fn np_variety(run: Run) -> ValueReply
     ensures { λ r. ⌜ VarietyPromise run r ⌝ }
 {
-    of_value(lines::variety(run))
+    of_value(variety::variety(run))
 }
 
 // Writes the run's line, and gives its length.
@@ -122,7 +122,7 @@ pub extern "C" fn np_read_line(bytes: &[u8]) -> RunReply
 pub extern "C" fn np_remake(run: Run, position: u64, values: &mut [u64]) -> ValueReply
     ensures { λ r. ⌜ RemakePromise run position (now (values .entry)) (now (values .exit)) r ⌝ }
 {
-    of_value(lines::remake(run, position, values))
+    of_value(remake::remake(run, position, values))
 }
 
 // Where the line with this number stands in the archive.
@@ -138,7 +138,7 @@ pub extern "C" fn np_line(archive: &[u8], line: u64) -> Part
 pub extern "C" fn np_lookup(archive: &[u8], value: u64) -> LookupReply
     ensures { λ r. ⌜ LookupPromise (now (archive .entry)) value r ⌝ }
 {
-    of_lookup(archive::lookup(archive, value))
+    of_lookup(lookup::lookup(archive, value))
 }
 
 // How many lines the archive has, and the sum of their counts.
@@ -146,5 +146,5 @@ pub extern "C" fn np_lookup(archive: &[u8], value: u64) -> LookupReply
 pub extern "C" fn np_summary(archive: &[u8]) -> SummaryReply
     ensures { λ r. ⌜ SummaryPromise (now (archive .entry)) r ⌝ }
 {
-    of_summary(archive::summary(archive))
+    of_summary(summary::summary(archive))
 }

@@ -1,12 +1,5 @@
--- The crates above cite none of these: `specs/` has what they need of an orbit.
+-- The promises of the two calls, and what the prime-modulus models are; the crates above cite `Orbits` and `LowPlaces`.
 pub mod Primes
-pub mod Elements
-pub mod Searches
 pub mod Orbits
 pub mod Indices
-pub mod Occurrences
-pub mod Places
-pub mod SignedCounts
-pub mod Gaps
-mod GapExamples
-mod PlacesExamples
+pub mod LowPlaces

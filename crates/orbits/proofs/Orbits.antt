@@ -1,146 +1,95 @@
--- The orbit of a linear generator: with an odd multiplier it is periodic from the start, with an even one it comes to rest.
--- Either way there is room for it below the modulus, so that the definitions find it there, as they find that of a prime-modulus
--- model.
-use mathlib.Core.Path.{_≡_, refl, sym, ap, subst, _∙_}
-use mathlib.Core.Logic.{⊎-elim, by-cases}
-use Prim.Native.Nat.{ℕ, zero, suc, _+_, _-_, _/_, _%_, _^_, _≤_, _<_}
-use native.Mathlib.Nat.{le-of-lt, le-refl, le-trans, lt-of-lt-of-le}
-use native.Mathlib.Decide.{ℕ-discrete}
+-- The promise of the orbit call. Every accepted generator has an orbit, and only one; with an odd multiplier it has no preperiod,
+-- with an even one the period 1; the period of a linear generator is a power of two, that of a prime-modulus model 2147483646.
+use Rattle.generator.specs.declared.Kind.{Kind}
+use Rattle.generator.specs.declared.Kind.the-variants as kind
+use Rattle.sequences.specs.declared.Orbit.{Orbit}
+use native.Mathlib.Numerals.{add-one}
+use mathlib.Core.Path.{_≡_, refl, sym, ap, _∙_}
+use mathlib.Core.Logic.{⊎-elim}
+use Prim.Native.Nat.{ℕ, suc, _+_, _-_, _%_, _^_, _≤_, _<_}
+use native.Mathlib.Nat.{le-trans}
 use native.Mathlib.Omega.{arith}
-use lib.Pow.{pow-pos, pow-mono}
-use Rattle.words.specs.Alpha.{Alpha, FirstDifference}
-use Rattle.words.proofs.Congruence.{same-sym, same-trans, same-lower, mod-two}
-use Rattle.sequences.specs.Orbit.{IsOrbit, exponentOf}
-use Rattle.sequences.specs.Places.{Agree}
-use Rattle.sequences.proofs.Orbits.{orbit-never, preperiod-is, period-is, exponent-is}
-use Rattle.sequences.proofs.Agreement.{reduced-eq}
+use Rattle.words.proofs.Congruence.{mod-two}
+use Rattle.sequences.specs.Orbit.{IsOrbit, exponentOf, IsPower, OrbitIs, periodOf, preperiodOf}
+use Rattle.sequences.proofs.Orbits.{preperiod-is, period-is, exponent-is, orbit-is-never, orbit-only, orbit-room}
 use Rattle.sequences.proofs.Isometric.{exponent, exponent-le, isometric-orbit}
-use Rattle.sequences.proofs.Contracting.{rest-orbit, resting, Scaling, scaling-contracting, scaled-rests}
+use Rattle.sequences.proofs.Contracting.{rest-orbit, resting}
 use Rattle.generator.specs.declared.Generator.{Generator}
 use Rattle.refusals.specs.declared.Refusal.{Refusal}
-use Rattle.generator.specs.declared.linear.Affine.{Affine}
-use Rattle.generator.specs.Recurrence.{modulus, element}
+use Rattle.generator.specs.Recurrence.{kindOf, modulus, element}
 use Rattle.refusals.specs.Refusals.{numberOf}
 use Rattle.generator.specs.Check.{refusalOf}
-use Rattle.generator.specs.Affine.{Linear, onceOf, apply}
+use Rattle.generator.specs.Linear.{Linear}
 use Rattle.generator.specs.Prime.{Prime}
-use Rattle.generator.proofs.Refusals.{modulus-linear, linear, prime}
-use Rattle.generator.proofs.Elements.{element-start, element-follows}
+use Rattle.powers.specs.Prime.{prime}
+use Rattle.generator.proofs.Elements.{element-follows}
 use Rattle.refusals.proofs.Replies.{number-suc, number-nonzero}
-use Rattle.orbits.specs.declared.OrbitAnswer.the-variants.{Orbit, Period, Refused}
-use Rattle.orbits.specs.declared.kinds.Cycle.{Cycle}
-use Rattle.orbits.specs.Orbit.{orbitReply, orbitOf, OrbitPromise, IsCycle}
-use Rattle.orbits.proofs.Elements.{reduced, isometric, one-held, scaling, contracting}
-use Rattle.orbits.proofs.Primes.{prime-orbit, prime-cycle}
+use Rattle.orbits.specs.declared.OrbitAnswer.the-variants as answer
+use Rattle.orbits.specs.Orbit.{orbitReply, plainOrbit, OrbitPromise}
+use Rattle.linear_orbits.proofs.Elements.{reduced, isometric, contracting}
+use Rattle.orbits.proofs.Primes.{prime-orbit, prime-is}
+use Rattle.generator.proofs.Refusals.{accepted-kind, prime-width}
+use Rattle.linear_orbits.proofs.LinearOrbits.{linear-has-orbit}
 
--- a power of two is above its exponent
-pub lt-two-pow : (n : ℕ) → n < 2 ^ n
-lt-two-pow zero = pow-pos 0
-lt-two-pow (suc n) = omega (arith, lt-two-pow n)
-
--- with an even multiplier: element 1 and the seed first differ at a place w below n, or not at all
-module _ {g : Generator} {once : Affine} {v w next : ℕ} (pre : (Linear g) × (g .multiplier % 2 ≡ 0))
-    (α : Alpha (g .multiplier) v) (eo : once ≡ onceOf g) (en : next ≡ apply once (g .seed) % 2 ^ 64)
-    (d : FirstDifference next (g .seed) w) where
-  sc : Scaling (g .width) v (element g)
-  sc = scaling (pre .0) (pre .1) α
-
-  -- element 1 and the seed agree in the places up to w, and in no more
-  one-agrees : {m : ℕ} → m ≤ g .width → m ≤ w → Agree m (element g 1) (element g 0)
-  one-agrees {m} l h =
-      record {
-        places =
-            same-trans (same-sym (same-lower m l (one-held (pre .0) eo en)))
-            (record { same = d .below m h ∙ ap (λ (u : ℕ). u % 2 ^ m) (sym (element-start g)) });
-      }
-
-  one-reach : {m : ℕ} → m ≤ g .width → Agree m (element g 1) (element g 0) → m ≤ w
-  one-reach {m} l a =
-      d .above m (le-trans l (pre .0 .width-high))
-      (same-trans (same-lower m l (one-held (pre .0) eo en)) (a .places) .same ∙ ap (λ (u : ℕ). u % 2 ^ m) (element-start g))
-
-  pub even-orbit : w < g .width →
-      ((g .width - w + v - 1) / v ≤ g .width) × IsOrbit (element g) ((g .width - w + v - 1) / v) 1
-  even-orbit l =
-      rest-orbit (scaling-contracting sc) (reduced (pre .0))
-      (scaled-rests sc l
-      (record { agree = one-agrees (le-of-lt l) (le-refl w); differ = λ a. omega (arith, one-reach l a) })
-      (reduced (pre .0)))
-
-  pub resting-orbit : g .width ≤ w → (0 ≤ g .width) × IsOrbit (element g) 0 1
-  resting-orbit l =
-      rest-orbit (scaling-contracting sc) (reduced (pre .0))
-      (record {
-        rest = reduced-eq (reduced (pre .0)) 1 0 (one-agrees (le-refl (g .width)) l);
-        moves = λ i h. absurd (omega arith);
-      })
-
--- room below the modulus for both
-module _ {g : Generator} (lin : Linear g) where
-  even-room : {t : ℕ} → t ≤ g .width → t + 1 ≤ modulus g
-  even-room l = rw (modulus-linear g (lin .width-low)) (omega (arith, lt-two-pow (g .width)))
-
-  pub places-room : {m : ℕ} → m ≤ g .width → 2 ^ m ≤ modulus g
-  places-room l = rw (modulus-linear g (lin .width-low)) (pow-mono l)
-
-  pub even-cycle : {t : ℕ} → (t ≤ g .width) × IsOrbit (element g) t 1 → IsCycle g (record { preperiod = t; last = 0 })
-  even-cycle o = record { orbit = o .1; within = omega (arith, even-room (o .0)) }
-
-  pub odd-cycle : {e last : ℕ} → (e ≤ g .width) × IsOrbit (element g) 0 (2 ^ e) → last + 1 ≡ 2 ^ e →
-      IsCycle g (record { preperiod = 0; last = last })
-  odd-cycle o q = record { orbit = rw q (o .1); within = omega (arith, places-room (o .0)) }
-
--- with an odd multiplier without a preperiod, as 16807 is
-pub odd-has-cycle : (g : Generator) → refusalOf g ≡ 0 → g .multiplier % 2 ≡ 1 →
-    (last : ℕ) × IsCycle g (record { preperiod = 0; last = last })
-odd-has-cycle g z p =
-    by-cases (ℕ-discrete (g .width) 0) (λ w. (2147483645, prime-cycle (prime g z w))) (λ w. by-places (linear g z w))
+-- every accepted generator has an orbit
+pub has-orbit : (g : Generator) → refusalOf g ≡ 0 → (o : Orbit) × OrbitIs (element g) (modulus g) o
+has-orbit g z = by-kind (kindOf g) refl
   where
-    by-places : Linear g → (last : ℕ) × IsCycle g (record { preperiod = 0; last = last })
-    by-places lin =
-        let e = exponent (element g) (g .width) in (
-          2 ^ e - 1,
-          odd-cycle lin (exponent-le (element g) (g .width), isometric-orbit (isometric lin p) (reduced lin))
-              (omega (arith, pow-pos e)),
-        )
+    by-kind : (k : Kind) → kindOf g ≡ k → (o : Orbit) × OrbitIs (element g) (modulus g) o
+    by-kind kind.Linear q = linear-has-orbit (accepted-kind g q z)
+    by-kind kind.Prime q = (record { preperiod = 0; last = 2147483645 }, prime-is (accepted-kind g q z))
 
--- an even multiplier is one of the linear kind
-even-linear : (g : Generator) → refusalOf g ≡ 0 → g .multiplier % 2 ≡ 0 → Linear g
-even-linear g z p = linear g z (λ w. omega (arith, p, prime g z w .multiplier))
-
--- every accepted generator has an orbit, and what the definitions find below the modulus
-pub has-cycle : (g : Generator) → refusalOf g ≡ 0 → (cycle : Cycle) × IsCycle g cycle
-has-cycle g z = ⊎-elim even odd (mod-two (g .multiplier))
+-- and with an odd multiplier one without a preperiod, as 16807 is
+pub odd-has-orbit : (g : Generator) → refusalOf g ≡ 0 → g .multiplier % 2 ≡ 1 → (P : ℕ) × IsOrbit (element g) 0 P
+odd-has-orbit g z p = by-kind (kindOf g) refl
   where
-    even : g .multiplier % 2 ≡ 0 → (cycle : Cycle) × IsCycle g cycle
-    even p =
-        let lin = even-linear g z p in
-        let r = resting (contracting lin p) (reduced lin) in
-        (record { preperiod = r .0; last = 0 }, even-cycle lin (rest-orbit (contracting lin p) (reduced lin) (r .1)))
+    by-kind : (k : Kind) → kindOf g ≡ k → (P : ℕ) × IsOrbit (element g) 0 P
+    by-kind kind.Linear q =
+        let lin = accepted-kind g q z in
+        (2 ^ exponent (element g) (g .width), isometric-orbit (isometric lin p) (reduced lin))
+    by-kind kind.Prime q = (2147483646, prime-orbit (accepted-kind g q z))
 
-    odd : g .multiplier % 2 ≡ 1 → (cycle : Cycle) × IsCycle g cycle
-    odd p = let o = odd-has-cycle g z p in (record { preperiod = 0; last = o .0 }, o .1)
+-- a number that no index below the modulus yields is never yielded
+pub below-never : (g : Generator) → refusalOf g ≡ 0 → {y : ℕ} → ((i : ℕ) → i < modulus g → element g i ≡ y → ⊥) →
+    (i : ℕ) → element g i ≡ y → ⊥
+below-never g z d = orbit-is-never (has-orbit g z .1) (element-follows g) d
 
-module _ {g : Generator} {cycle : Cycle} (is : IsCycle g cycle) where
-  pub cycle-room : cycle .preperiod + (cycle .last + 1) ≤ modulus g
-  cycle-room = omega (arith, is .within)
+-- What is known of the orbit in hand, by the kind.
+module _ (g : Generator) {o : Orbit} (is : OrbitIs (element g) (modulus g) o) where
+  pub orbit-power : Linear g → IsPower (suc (o .last))
+  orbit-power lin = ⊎-elim even odd (mod-two (g .multiplier))
+    where
+      even : g .multiplier % 2 ≡ 0 → IsPower (suc (o .last))
+      even p =
+          let r = resting (contracting lin p) (reduced lin) in
+          record {
+            exponent = 0;
+            small = omega arith;
+            power = orbit-only (is .orbit) (rest-orbit (contracting lin p) (reduced lin) (r .1) .1) .1;
+          }
 
-  -- a number that no index below the modulus yields is never yielded
-  pub cycle-never : {y : ℕ} → ((i : ℕ) → i < modulus g → element g i ≡ y → ⊥) → (i : ℕ) → element g i ≡ y → ⊥
-  cycle-never d = orbit-never (element-follows g) (is .orbit) (λ i l. d i (lt-of-lt-of-le l cycle-room))
+      odd : g .multiplier % 2 ≡ 1 → IsPower (suc (o .last))
+      odd p =
+          record {
+            exponent = exponent (element g) (g .width);
+            small = le-trans (exponent-le (element g) (g .width)) (lin .width-high);
+            power = orbit-only (is .orbit) (isometric-orbit (isometric lin p) (reduced lin)) .1;
+          }
 
--- what the reply carries, by the width
-by-exponent : {n : ℕ} → 1 ≤ n → (t P : ℕ) →
-    orbitReply 0 n t P ≡ record { refusal = 0; preperiod = t; exponent = exponentOf P; period = 0 }
-by-exponent {n = zero} l t P = absurd (omega arith)
-by-exponent {n = suc n} l t P = refl
+  orbit-odd : refusalOf g ≡ 0 → g .multiplier % 2 ≡ 1 → o .preperiod ≡ 0
+  orbit-odd z p = orbit-only (is .orbit) (odd-has-orbit g z p .1) .0
 
-by-period : {n : ℕ} → n ≡ 0 → (t P : ℕ) → orbitReply 0 n t P ≡ record { refusal = 0; preperiod = t; exponent = 0; period = P }
-by-period {n = zero} w t P = refl
-by-period {n = suc n} w t P = absurd (omega arith)
+  orbit-even : Linear g → g .multiplier % 2 ≡ 0 → (o .preperiod ≤ g .width) × (suc (o .last) ≡ 1)
+  orbit-even lin p =
+      let r = resting (contracting lin p) (reduced lin) in
+      let e = rest-orbit (contracting lin p) (reduced lin) (r .1) in
+      let only = orbit-only (is .orbit) (e .1) in (omega (arith, only .0, e .0), only .1)
+
+  pub prime-last : Prime g → (o .preperiod ≡ 0) × (o .last ≡ 2147483645)
+  prime-last v = let only = orbit-only (is .orbit) (prime-orbit v) in (only .0, omega (arith, only .1))
 
 -- The promise of the call.
-pub orbit-refused : (g : Generator) (x : Refusal) → numberOf x ≡ refusalOf g → OrbitPromise g (orbitOf (Refused x))
+pub orbit-refused : (g : Generator) (x : Refusal) → numberOf x ≡ refusalOf g → OrbitPromise g (plainOrbit (answer.Refused x))
 orbit-refused g x e =
     record {
       equals = let k = number-suc x in rw (← e, k .1);
@@ -150,58 +99,47 @@ orbit-refused g x e =
       prime = λ z. absurd (number-nonzero x z);
     }
 
-pub orbit-even : (g : Generator) {t : ℕ} → refusalOf g ≡ 0 → g .multiplier % 2 ≡ 0 →
-    (t ≤ g .width) × IsOrbit (element g) t 1 → OrbitPromise g (orbitOf (Orbit t 0))
-orbit-even g {t} z p o =
-    record {
-      equals = rw (z, preperiod-is (o .1) room, period-is (o .1) room, by-exponent (lin .width-low) t 1, exponent-is 0 (omega arith));
-      meaning = λ q. o .1;
-      odd = λ q b. absurd (omega arith);
-      even = λ q b. (o .0, refl);
-      prime = λ q w. absurd (omega (arith, w, lin .width-low));
-    }
-  where
-    lin : Linear g
-    lin = even-linear g z p
+module _ (g : Generator) {o : Orbit} (z : refusalOf g ≡ 0) (is : OrbitIs (element g) (modulus g) o) where
+  -- the definitions find the orbit in hand
+  defined : {k : Kind} → kindOf g ≡ k →
+      orbitReply (refusalOf g) (kindOf g) (preperiodOf (element g) (modulus g)) (periodOf (element g) (modulus g))
+      ≡ orbitReply 0 k (o .preperiod) (suc (o .last))
+  defined q = rw (z, q, preperiod-is (is .orbit) (orbit-room is), period-is (is .orbit) (orbit-room is))
 
-    room : t + 1 ≤ modulus g
-    room = even-room lin (o .0)
+  pub orbit-linear : {e : ℕ} → kindOf g ≡ kind.Linear → e ≡ exponentOf (suc (o .last)) →
+      OrbitPromise g (plainOrbit (answer.Orbit (o .preperiod) e))
+  orbit-linear {e} q h =
+      rw h
+      (record {
+        equals = sym (defined q);
+        meaning = λ r. rw exact (is .orbit);
+        odd = λ r p. orbit-odd g is z p;
+        even = λ r p. let a = orbit-even g is lin p in (a .0, rw exact (a .1));
+        prime = λ r k. absurd (omega (arith, prime-width g k, lin .width-low));
+      })
+    where
+      lin : Linear g
+      lin = accepted-kind g q z
 
-pub orbit-odd : (g : Generator) {e : ℕ} → refusalOf g ≡ 0 → (g .width ≡ 0 → ⊥) → g .multiplier % 2 ≡ 1 →
-    (e ≤ g .width) × IsOrbit (element g) 0 (2 ^ e) → OrbitPromise g (orbitOf (Orbit 0 e))
-orbit-odd g {e} z nonzero p o =
-    record {
-      equals =
-          rw (z, preperiod-is (o .1) room, period-is (o .1) room, by-exponent (lin .width-low) 0 (2 ^ e), exponent-is e (le-trans (o .0) (lin .width-high)));
-      meaning = λ q. o .1;
-      odd = λ q b. refl;
-      even = λ q b. absurd (omega arith);
-      prime = λ q w. absurd (nonzero w);
-    }
-  where
-    lin : Linear g
-    lin = linear g z nonzero
+      power : IsPower (suc (o .last))
+      power = orbit-power g is lin
 
-    room : 0 + 2 ^ e ≤ modulus g
-    room = omega (arith, places-room lin (o .0))
+      exact : 2 ^ exponentOf (suc (o .last)) ≡ suc (o .last)
+      exact = ap (λ (P : ℕ). 2 ^ exponentOf P) (power .power) ∙ ap (λ (n : ℕ). 2 ^ n) (exponent-is (power .exponent) (power .small)) ∙ sym (power .power)
 
-pub orbit-prime : (g : Generator) {P : ℕ} → refusalOf g ≡ 0 → g .width ≡ 0 →
-    (P ≡ 2147483646) × IsOrbit (element g) 0 P → OrbitPromise g (orbitOf (Period 0 P))
-orbit-prime g {P} z w o =
-    subst (λ (q : ℕ). OrbitPromise g (orbitOf (Period 0 q))) (sym (o .0))
-    (record {
-      equals = rw (z, preperiod-is orbit room, period-is orbit room, by-period w 0 2147483646);
-      meaning = λ q. orbit;
-      odd = λ q b. refl;
-      even = λ q b. absurd (omega (arith, b, p .multiplier));
-      prime = λ q v. (refl, refl);
-    })
-  where
-    p : Prime g
-    p = prime g z w
+  pub orbit-prime : kindOf g ≡ kind.Prime → OrbitPromise g (plainOrbit (answer.Period (o .preperiod) (o .last + 1)))
+  orbit-prime q =
+      rw (add-one (o .last))
+      (record {
+        equals = sym (defined q);
+        meaning = λ r. is .orbit;
+        odd = λ r p. orbit-odd g is z p;
+        even = λ r p. absurd (omega (arith, p, v .multiplier));
+        prime = λ r k. (last .0, omega (arith, last .1));
+      })
+    where
+      v : Prime g
+      v = accepted-kind g q z
 
-    orbit : IsOrbit (element g) 0 2147483646
-    orbit = prime-orbit p
-
-    room : 0 + 2147483646 ≤ modulus g
-    room = cycle-room (prime-cycle p)
+      last : (o .preperiod ≡ 0) × (o .last ≡ 2147483645)
+      last = prime-last g is v

@@ -1,27 +1,30 @@
 -- One step is undone by an odd multiplier's inverse, and since an odd factor cancels nothing else steps to the same number. The
 -- same holds of 16807 modulo 2147483647.
-use mathlib.Core.Path.{_≡_, sym, _∙_}
-use mathlib.Core.Bool.{cond, false}
+use mathlib.Core.Path.{_≡_, sym, ap, _∙_}
+use mathlib.Core.Bool.{cond, false, _||_}
 use Prim.Native.Nat.{ℕ, _+_, _*_, _%_, _^_, _<_}
 use native.Mathlib.Nat.{mod-eq-of-lt, mod-lt, le-of-lt, lt-of-lt-of-le}
 use native.Mathlib.Omega.{arith}
 use lib.Dec.{eqb, leb}
 use lib.Pow.{pow-pos, pow-mono}
-use borrow.Author.Tests.{eq-eqb, ne-eqb, leb-false, eqb-false}
+use borrow.Author.Tests.{eq-eqb, ne-eqb, leb-false}
 use Rattle.words.proofs.Congruence.{Congruent, same-refl, same-trans, same-regroup, same-result, same-add, same-scale, same-lower, same-add-cancel, same-below, odd-cancel}
 use Rattle.generator.specs.declared.Generator.{Generator}
+use Rattle.generator.specs.declared.Kind.{Kind}
+use Rattle.generator.specs.declared.Kind.the-variants as kind
+use Rattle.generator.specs.Kinds.{KindIs}
 use Rattle.refusals.specs.declared.Refusal.{Refusal}
 use Rattle.refusals.specs.declared.ValueAnswer.the-variants.{Value, Refused}
-use Rattle.generator.specs.Recurrence.{modulus, step}
-use Rattle.generator.specs.Check.{refusalOf}
+use Rattle.generator.specs.Recurrence.{kindOf, modulus, step}
+use Rattle.generator.specs.Check.{refusalOf, parityRefusal}
 use Rattle.refusals.specs.Refusals.{numberOf}
 use Rattle.refusals.specs.Replies.{plainValue}
-use Rattle.generator.specs.Affine.{Linear}
+use Rattle.generator.specs.Linear.{Linear}
 use Rattle.generator.specs.Prime.{Prime}
-use Rattle.predecessors.specs.Predecessor.{valueRefused, predecessorRefusal, predecessorOf, OnlyPredecessor, PredecessorPromise}
+use Rattle.predecessors.specs.Predecessor.{outOfRange, valueOutOfRange, predecessorRefusal, predecessorOf, OnlyPredecessor, PredecessorPromise}
 use Rattle.sequences.proofs.Least.{least-unique}
 use Rattle.powers.proofs.Multiplying.{steps-apart}
-use Rattle.generator.proofs.Refusals.{modulus-linear, modulus-prime, linear, prime}
+use Rattle.generator.proofs.Refusals.{modulus-linear, modulus-prime, kind-told, parity-odd}
 use Rattle.refusals.proofs.Conditions.{cond-none, or-false, or-else-none}
 use Rattle.refusals.proofs.Replies.{number-nonzero, value-refused, value-given}
 use Rattle.generator.proofs.Walking.{step-linear}
@@ -69,7 +72,7 @@ steps-back {g} b d {p} {y} {z} pre eb ed ep ez =
     }
   where
     whole : modulus g ≡ 2 ^ g .width
-    whole = modulus-linear g (pre .0 .width-low)
+    whole = modulus-linear g (pre .0 .kind)
 
     a : ℕ
     a = g .multiplier
@@ -108,33 +111,41 @@ prime-steps-back {g} {y} {z} pre h =
     }
   where
     whole : modulus g ≡ 2147483647
-    whole = modulus-prime g (pre .0 .width)
+    whole = modulus-prime g (pre .0 .kind)
+
+-- which numbers are out of range, by the kind
+module _ (g : Generator) (y : ℕ) where
+  pub range-linear : kindOf g ≡ kind.Linear → leb (2 ^ g .width) y ≡ valueOutOfRange g y
+  range-linear q =
+      ap (λ (m : ℕ). leb m y) (sym (modulus-linear g q)) ∙ ap (λ (k : Kind). outOfRange k (modulus g) y) (sym q)
+
+  pub range-prime : kindOf g ≡ kind.Prime → (eqb y 0 || leb 2147483647 y) ≡ valueOutOfRange g y
+  range-prime q =
+      ap (λ (m : ℕ). eqb y 0 || leb m y) (sym (modulus-prime g q))
+      ∙ ap (λ (k : Kind). outOfRange k (modulus g) y) (sym q)
 
 -- what the predecessor's refusals leave
 module _ (g : Generator) (y : ℕ) (e : predecessorRefusal g y ≡ 0) where
-  even : ℕ
-  even = cond (eqb (g .multiplier % 2) 0) 7 0
+  both : (refusalOf g ≡ 0) × (cond (valueOutOfRange g y) 6 (parityRefusal g) ≡ 0)
+  unfolding predecessorRefusal
+  both = or-else-none (refusalOf g) (cond (valueOutOfRange g y) 6 (parityRefusal g)) e
 
-  both : (refusalOf g ≡ 0) × (cond (valueRefused g y) 6 even ≡ 0)
-  unfolding predecessorRefusal even
-  both = or-else-none (refusalOf g) (cond (valueRefused g y) 6 even) e
+  fitting : (valueOutOfRange g y ≡ false) × (parityRefusal g ≡ 0)
+  fitting = cond-none (valueOutOfRange g y) 5 (parityRefusal g) (both .1)
 
-  fitting : (valueRefused g y ≡ false) × (even ≡ 0)
-  fitting = cond-none (valueRefused g y) 5 even (both .1)
+  value-below : (k : Kind) → outOfRange k (modulus g) y ≡ false → y < modulus g
+  value-below kind.Linear f = leb-false (modulus g) y f
+  value-below kind.Prime f = leb-false (modulus g) y (or-false (eqb y 0) (leb (modulus g) y) f .1)
 
-  value-below : y < modulus g
-  value-below = leb-false (modulus g) y (or-false (leb (modulus g) y) _ (fitting .0) .0)
+  pub invertible : {k : Kind} → KindIs g k → k ≡ kind.Linear → (Linear g) × (g .multiplier % 2 ≡ 1) × (y < 2 ^ g .width)
+  invertible is q =
+      let v = kind-told is q (both .0) in
+      (v, parity-odd g (fitting .1), rw (modulus-linear g (v .kind)) at (value-below (kindOf g) (fitting .0)))
 
-  parity : g .multiplier % 2 ≡ 1
-  unfolding even
-  parity = omega (arith, eqb-false (g .multiplier % 2) 0 (cond-none (eqb (g .multiplier % 2) 0) 6 0 (fitting .1) .0))
-
-  pub invertible : (g .width ≡ 0 → ⊥) → (Linear g) × (g .multiplier % 2 ≡ 1) × (y < 2 ^ g .width)
-  invertible nonzero =
-      let v = linear g (both .0) nonzero in (v, parity, rw (modulus-linear g (v .width-low)) at value-below)
-
-  pub prime-invertible : g .width ≡ 0 → (Prime g) × (y < 2147483647)
-  prime-invertible z = (prime g (both .0) z, rw (modulus-prime g z) at value-below)
+  pub prime-invertible : {k : Kind} → KindIs g k → k ≡ kind.Prime → (Prime g) × (y < 2147483647)
+  prime-invertible is q =
+      let v = kind-told is q (both .0) in
+      (v, rw (modulus-prime g (v .kind)) at (value-below (kindOf g) (fitting .0)))
 
 -- the promise of the call, where it refuses and where it answers
 pub predecessor-refused :

@@ -1,23 +1,29 @@
 -- The predecessor of a number (SCOPE 3.4).
 use mathlib.Core.Path.{_≡_}
-use mathlib.Core.Bool.{Bool, cond, _&&_, _||_}
-use Prim.Native.Nat.{ℕ, _%_, _<_}
+use mathlib.Core.Bool.{Bool, cond, _||_}
+use Prim.Native.Nat.{ℕ, _<_}
 use lib.Dec.{eqb, leb}
 use Rattle.generator.specs.declared.Generator.{Generator}
+use Rattle.generator.specs.declared.Kind.{Kind}
+use Rattle.generator.specs.declared.Kind.the-variants.{Linear, Prime}
 use Rattle.sequences.specs.Least.{least}
-use Rattle.generator.specs.Recurrence.{modulus, step}
+use Rattle.generator.specs.Recurrence.{kindOf, modulus, step}
 use Rattle.refusals.specs.Refusals.{orElse}
-use Rattle.generator.specs.Check.{refusalOf}
+use Rattle.generator.specs.Check.{refusalOf, parityRefusal}
 use Rattle.refusals.specs.declared.ValueReply.{ValueReply}
 use Rattle.refusals.specs.Replies.{valueReply}
 
--- 6: the number is not below the modulus, or it is 0 at width 0.
-abbrev pub valueRefused : Generator → ℕ → Bool
-valueRefused g y = leb (modulus g) y || (eqb (g .width) 0 && eqb y 0)
+-- 6, of a linear generator: the number is not below the modulus. Of a prime-modulus model: it is 0, or not below the modulus.
+abbrev pub outOfRange : Kind → ℕ → ℕ → Bool
+outOfRange Linear m y = leb m y
+outOfRange Prime m y = eqb y 0 || leb m y
 
--- After 3 and 4, 6, and after it 7: the multiplier is even.
+abbrev pub valueOutOfRange : Generator → ℕ → Bool
+valueOutOfRange g y = outOfRange (kindOf g) (modulus g) y
+
+-- After 3 and 4, 6, and after it 7.
 unfoldable pub predecessorRefusal : Generator → ℕ → ℕ
-predecessorRefusal g y = orElse (refusalOf g) (cond (valueRefused g y) 6 (cond (eqb (g .multiplier % 2) 0) 7 0))
+predecessorRefusal g y = orElse (refusalOf g) (cond (valueOutOfRange g y) 6 (parityRefusal g))
 
 -- The least number below the modulus that one step takes to y.
 unfoldable pub predecessorOf : Generator → ℕ → ℕ

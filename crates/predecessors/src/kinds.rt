@@ -1,37 +1,24 @@
-// Functions that choose by kind.
+// Functions that choose by kind. All they ask is that the generator is accepted.
 ghost use mathlib.Core.Path.{_≡_};
-ghost use Prim.Native.Nat.{_≤_};
-ghost use lib.Dec.{leb};
-ghost use Rattle.generator.specs.Recurrence.{modulus};
-ghost use Rattle.predecessors.specs.Predecessor.{valueRefused, predecessorRefusal, OnlyPredecessor};
+ghost use Rattle.generator.specs.Check.{refusalOf};
+ghost use Rattle.predecessors.specs.Predecessor.{valueOutOfRange, predecessorRefusal, OnlyPredecessor};
 use crate::linear;
 use crate::prime;
 use generator::Generator;
+use generator::Kind;
+use generator::kind_of;
 use words::bits::exceeds;
 
-// Whether x is not below the modulus.
-fn exceeds_modulus(g: Generator, x: u64) -> bool
-    requires { ⌜ g .width ≤ 64 ⌝ }
-    ensures { λ r. ⌜ r ≡ leb (modulus g) x ⌝ }
+// Whether a number is one that no generator like this one yields.
+pub fn out_of_range(g: Generator, value: u64) -> bool
+    requires { ⌜ refusalOf g ≡ 0 ⌝ }
+    ensures { λ r. ⌜ r ≡ valueOutOfRange g value ⌝ }
 {
-    if g.width == 0 {
-        return 2147483647 <= x;
+    let kind = kind_of(g);
+    match kind {
+        Kind::Linear => exceeds(value, g.width),
+        Kind::Prime => prime::out_of_range(value),
     }
-    exceeds(x, g.width)
-}
-
-// Whether a number is one that no generator of this width yields.
-pub fn is_no_value(g: Generator, value: u64) -> bool
-    requires { ⌜ g .width ≤ 64 ⌝ }
-    ensures { λ r. ⌜ r ≡ valueRefused g value ⌝ }
-{
-    if exceeds_modulus(g, value) {
-        return true;
-    }
-    if g.width != 0 {
-        return false;
-    }
-    value == 0
 }
 
 // The only number that one step takes to y.
@@ -39,8 +26,9 @@ pub fn previous_of(g: Generator, y: u64) -> u64
     requires { ⌜ predecessorRefusal g y ≡ 0 ⌝ }
     ensures { λ r. ⌜ OnlyPredecessor g y r ⌝ }
 {
-    if g.width == 0 {
-        return prime::step_back(g, y);
+    let kind = kind_of(g);
+    match kind {
+        Kind::Linear => linear::step_back(g, y),
+        Kind::Prime => prime::step_back(g, y),
     }
-    linear::step_back(g, y)
 }

@@ -6,7 +6,8 @@ ghost use Rattle.refusals.specs.Replies.{plainValue};
 ghost use Rattle.predecessors.specs.Predecessor.{predecessorRefusal, PredecessorPromise};
 use generator::Generator;
 use generator::checked;
-use kinds::is_no_value;
+use generator::parity_checked;
+use kinds::out_of_range;
 use refusals::Check;
 use refusals::Refusal;
 use refusals::ValueAnswer;
@@ -23,13 +24,10 @@ fn predecessor_checked(g: Generator, value: u64) -> Check
     if let Check::Refused(_) = verdict {
         return verdict;
     }
-    if is_no_value(g, value) {
+    if out_of_range(g, value) {
         return Check::Refused(Refusal::ValueOutOfRange);
     }
-    if g.multiplier % 2 == 0 {
-        return Check::Refused(Refusal::NotInvertible);
-    }
-    Check::Accepted
+    parity_checked(g)
 }
 
 // The only number that one step takes to `value`.

@@ -2,7 +2,7 @@
 ghost use mathlib.Core.Path.{_≡_};
 ghost use Prim.Native.Nat.{_+_, _%_, _^_, _<_};
 ghost use Rattle.predecessors.specs.Predecessor.{OnlyPredecessor};
-ghost use Rattle.generator.specs.Affine.{Linear};
+ghost use Rattle.generator.specs.Linear.{Linear};
 use generator::Generator;
 use std::num::wrapping_sub_u64;
 use words::bits::low_bits;

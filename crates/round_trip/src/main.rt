@@ -1,15 +1,15 @@
 // A client of the lines: a run is written and read back, and its proof rests on the two calls' contracts alone.
 ghost use mathlib.Core.Path.{_≡_};
-ghost use Rattle.lines.specs.Run.{runRefusal};
-ghost use Rattle.lines.specs.ReadLine.{replyOf, runReply};
+ghost use Rattle.runs.specs.Run.{runRefusal};
+ghost use Rattle.lines.specs.ReadLine.{plainRun, runReply};
 use generator::Generator;
-use lines::Run;
 use lines::RunAnswer;
 use refusals::ValueAnswer;
+use runs::Run;
 
 // The run again, or its refusal.
 fn round_trip(run: Run) -> RunAnswer
-    ensures { λ r. ⌜ replyOf r ≡ runReply (runRefusal run) run ⌝ }
+    ensures { λ r. ⌜ plainRun r ≡ runReply (runRefusal run) run ⌝ }
 {
     let mut buffer = [0u8; 107];
     let answer = lines::write_line(run, &mut buffer);

@@ -5,8 +5,8 @@ use mathlib.Core.List.{List}
 use Prim.Native.Nat.{ℕ, _<_}
 use native.Mathlib.Omega.{arith}
 use lib.ListN.{length, getD}
-use Rattle.archive.specs.declared.LookupReply.{LookupReply}
-use Rattle.archive.proofs.Demands.{lookup-long}
+use Rattle.lookup.specs.declared.LookupReply.{LookupReply}
+use Rattle.lookup.proofs.EarliestLocation.{lookup-long}
 use Rattle.archive_io.specs.declared.input.Rest.{Rest}
 use Rattle.archive_io.specs.declared.notice.Notice.the-variants.{Refused}
 use Rattle.archive_io.specs.Source.{holds}
@@ -25,8 +25,8 @@ module _ {input numbers : List ℕ} {rest : Rest} {answer : Bool} (a : AskPromis
   asked-number t =
       record { is = λ stdin r. rw (sym (a .is stdin r .equals) ∙ t, a .is stdin r .asked t) }
 
-pub some : {v : ℕ} → Number v ≡ Malformed → ⊥
-some e = let z : _≡_ {A = ℕ} 0 1 = cc in omega arith
+pub number-some : {v : ℕ} → Number v ≡ Malformed → ⊥
+number-some e = let z : _≡_ {A = ℕ} 0 1 = cc in omega arith
 
 pub too-long : (v : ℕ) (bytes : List ℕ) → 65536 < length bytes → outcomeFor (Number v) (holds bytes) ≡ Told (Refused 1 0)
 too-long v bytes l = ap (λ (p : LookupReply). outcomeOf p) (lookup-long bytes v l)

@@ -6,13 +6,13 @@ use Rattle.sequences.specs.Least.{least}
 use Rattle.generator.specs.Recurrence.{modulus, step, element}
 use Rattle.generator.specs.Check.{refusalOf}
 use Rattle.fields.specs.Ascii.{ascii}
-use Rattle.fields.specs.Digits.{lastDigits, digitsOf}
+use Rattle.decimals.specs.Digits.{lastDigits, digitsOf}
 use Rattle.fields.specs.Line.{fieldsLine, numbersFrom, isLine}
-use Rattle.lines.specs.Run.{shows, runRefusal}
+use Rattle.runs.specs.Run.{shows, runRefusal}
 use Rattle.lines.specs.ReadLine.{readOf}
 use Rattle.archive.specs.Archive.{linesOf}
 use Rattle.archive.specs.Check.{isAmong, firstRefused, checkOf}
-use Rattle.archive.specs.Lookup.{positionOf, firstShowing, lookupOf}
+use Rattle.lookup.specs.Lookup.{positionOf, firstShowing, lookupOf}
 use Rattle.archive_io.specs.Source.{Source, holds, unreadable}
 use Rattle.runfind_io.specs.declared.decision.Question.the-variants.{Number, Malformed}
 use Rattle.runfind_io.specs.Decision.{askedOf, outcomeFor}

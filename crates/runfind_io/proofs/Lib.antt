@@ -1,4 +1,4 @@
--- `Answering` has the answer's line, and `Deciding` what the question and an archive that is too long show.
-pub mod Answering
-pub mod Deciding
+-- `Answering` has what each way out of the answer shows, and `Deciding` what the question and an archive that is too long show.
+mod Answering
+mod Deciding
 mod Examples

@@ -2,15 +2,15 @@
 use mathlib.Core.Bool.{cond}
 use lib.Dec.{eqb}
 use lib.ListN.{getD}
-use Rattle.archive.specs.declared.LookupReply.{LookupReply}
-use Rattle.archive.specs.Lookup.{lookupOf}
+use Rattle.lookup.specs.declared.LookupReply.{LookupReply}
+use Rattle.lookup.specs.Lookup.{lookupOf}
 use Rattle.archive_io.specs.declared.notice.Notice.the-variants.{NotFound, Refused, BadQuestion, Unread}
 use Rattle.archive_io.specs.Source.{Source, holds, unreadable}
 use Rattle.archive_io.specs.Question.{isQuestion, numbersAsked}
 use Rattle.runfind_io.specs.declared.decision.Question.{Question}
 use Rattle.runfind_io.specs.declared.decision.Question.the-variants.{Number, Malformed}
 use Rattle.runfind_io.specs.declared.output.Outcome.{Outcome}
-use Rattle.runfind_io.specs.declared.output.Outcome.the-variants.{Place, Told}
+use Rattle.runfind_io.specs.declared.output.Outcome.the-variants.{Location, Told}
 
 -- A question has one field.
 abbrev pub askedOf : Source → Question
@@ -18,7 +18,7 @@ askedOf stdin = cond (isQuestion 1 stdin) (Number (getD (numbersAsked stdin) 0 0
 
 abbrev pub outcomeOf : LookupReply → Outcome
 outcomeOf reply =
-    cond (eqb (reply .refusal) 0) (cond (eqb (reply .found) 0) (Told NotFound) (Place (reply .line) (reply .position)))
+    cond (eqb (reply .refusal) 0) (cond (eqb (reply .found) 0) (Told NotFound) (Location (reply .line) (reply .position)))
     (Told (Refused (reply .refusal) (reply .line)))
 
 -- The question is looked at first, then the file.

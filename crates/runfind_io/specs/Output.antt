@@ -4,8 +4,8 @@ use Prim.Native.Nat.{ℕ}
 use Rattle.fields.specs.Line.{fieldsLine}
 use Rattle.archive_io.specs.Notice.{noticeLine}
 use Rattle.runfind_io.specs.declared.output.Outcome.{Outcome}
-use Rattle.runfind_io.specs.declared.output.Outcome.the-variants.{Place, Told}
+use Rattle.runfind_io.specs.declared.output.Outcome.the-variants.{Location, Told}
 
 abbrev pub outcomeLine : Outcome → List ℕ
-outcomeLine (Place line position) = fieldsLine (line ∷ position ∷ [])
+outcomeLine (Location line position) = fieldsLine (line ∷ position ∷ [])
 outcomeLine (Told notice) = noticeLine notice

@@ -1,12 +1,15 @@
 // What the program prints, decided by what was read.
-ghost use lib.ListN.{length};
-ghost use Rattle.archive_io.specs.Decision.{Asked, Decided};
+ghost use Prim.Native.Nat.{_≤_};
+ghost use lib.ListN.{length, take};
+ghost use Rattle.archive_io.specs.Decision.{Answered, Asked, Decided};
 ghost use Rattle.archive_io.specs.Input.{Enough};
 ghost use Rattle.runfind_io.specs.Decision.{askedOf, outcomeFor};
-ghost use Rattle.runfind_io.specs.declared.decision.Question.the-variants.{Malformed};
+ghost use Rattle.runfind_io.specs.declared.decision.Question.the-variants.{Malformed, Number};
 use crate::answer::answer;
 use crate::output::Outcome;
+use archive_io::input::Reading;
 use archive_io::input::Rest;
+use archive_io::input::read_archive;
 use archive_io::notice::Notice;
 use archive_io::question::ask;
 
@@ -14,6 +17,12 @@ use archive_io::question::ask;
 pub enum Question {
     Number(u64),
     Malformed,
+}
+
+// What is to be printed, and what was read of the file for it.
+pub struct Response {
+    pub outcome: Outcome,
+    pub archive: Reading,
 }
 
 // The question that standard input holds: one field. It has at most 21 bytes, so 22 show that it is none.
@@ -28,19 +37,37 @@ pub fn asked(input: &[u8], rest: Rest) -> Question
     Question::Number(numbers[0])
 }
 
-// The outcome, by the bytes read of standard input and of the file. An archive has at most 65,536
-// bytes, so 65,537 show that it is too long.
-pub fn decide(input: &[u8], behind: Rest, archive: &[u8], beyond: Rest) -> Outcome
-    requires { ⌜ Enough 22 (length (now input)) behind ⌝ }
-    requires { ⌜ Enough 65537 (length (now archive)) beyond ⌝ }
-    ensures { λ r. ⌜ Decided askedOf Malformed outcomeFor (now (input .entry)) behind (now (archive .entry)) beyond r ⌝ }
+// The outcome for a question, by the bytes read of the file. An archive has at most 65,536 bytes, so 65,537 show that it is
+// too long.
+pub fn decide(value: u64, archive: &[u8], rest: Rest) -> Outcome
+    requires { ⌜ Enough 65537 (length (now archive)) rest ⌝ }
+    ensures { λ r. ⌜ Decided (outcomeFor (Number value)) (now (archive .entry)) rest r ⌝ }
 {
-    let Question::Number(value) = asked(input, behind) else {
-        return Outcome::Told(Notice::BadQuestion);
-    };
-    match beyond {
+    match rest {
         Rest::Nothing => answer(archive, value),
         Rest::Unknown => answer(archive, value),
         Rest::Failed => Outcome::Told(Notice::Unread),
     }
+}
+
+// The outcome for what was read of standard input. The file is opened, and read into `bytes`, only if there is a question.
+pub fn respond(input: &[u8], input_rest: Rest, bytes: &mut [u8]) -> Response
+    requires { ⌜ Enough 22 (length (now input)) «input_rest» ⌝ }
+    requires { ⌜ 65537 ≤ length (now bytes) ⌝ }
+    ensures { λ r. ⌜ Answered askedOf Malformed outcomeFor (now (input .entry)) «input_rest» (take (r .archive .n) (now (bytes .exit))) (r .archive .rest) (r .outcome) ⌝ }
+{
+    let Question::Number(value) = asked(input, input_rest) else {
+        return Response {
+            outcome: Outcome::Told(Notice::BadQuestion),
+            archive: Reading {
+                n: 0,
+                rest: Rest::Failed,
+            },
+        };
+    };
+    let archive = read_archive(bytes);
+    let n = archive.n;
+    let archive_rest = archive.rest;
+    let outcome = decide(value, &bytes[..n], archive_rest);
+    Response { outcome, archive }
 }

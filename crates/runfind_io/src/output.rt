@@ -10,7 +10,7 @@ use archive_io::notice::write_pair;
 
 pub enum Outcome {
     // The number of a line and a position.
-    Place(u64, u64),
+    Location(u64, u64),
     Told(Notice),
 }
 
@@ -26,7 +26,7 @@ pub fn write_outcome(buf: &mut [u8], outcome: Outcome) -> usize
     ensures { λ r. ⌜ FrontWritten (outcomeLine outcome) (now (buf .entry)) (now (buf .exit)) r ⌝ }
 {
     match outcome {
-        Outcome::Place(line, position) => write_pair(buf, line, position),
+        Outcome::Location(line, position) => write_pair(buf, line, position),
         Outcome::Told(notice) => write_notice(buf, notice),
     }
 }

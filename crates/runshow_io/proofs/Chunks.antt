@@ -12,10 +12,10 @@ use Rattle.refusals.specs.declared.ValueReply.{ValueReply}
 use Rattle.refusals.specs.Replies.{plainValue, valueReply}
 use Rattle.refusals.proofs.Replies.{number-suc}
 use Rattle.fields.specs.Codec.{FrontWritten}
-use Rattle.lines.specs.declared.Run.{Run}
-use Rattle.lines.specs.Run.{shows, runRefusal}
-use Rattle.lines.specs.Remake.{shownFrom, remadeCount, RemakePromise}
-use Rattle.lines.proofs.Runs.{valid-run}
+use Rattle.runs.specs.declared.Run.{Run}
+use Rattle.runs.specs.Run.{shows, runRefusal}
+use Rattle.remake.specs.Remake.{shownFrom, remadeCount, RemakePromise}
+use Rattle.runs.proofs.Runs.{valid-run}
 use Rattle.runshow_io.specs.Output.{numbersLines, dueOf, ChunkPromise}
 use Rattle.runshow_io.specs.declared.output.Chunk.{Chunk}
 use Rattle.runshow_io.proofs.Writing.{numbers-short}

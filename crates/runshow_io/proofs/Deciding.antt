@@ -17,5 +17,5 @@ module _ {input numbers : List ℕ} {rest : Rest} {answer : Bool} (a : AskPromis
   pub asked-numbers : answer ≡ true → Asked askedOf input rest (threeOf numbers)
   asked-numbers t = record { is = λ stdin r. rw (sym (a .is stdin r .equals) ∙ t, a .is stdin r .asked t) }
 
-pub some : {line first many : ℕ} → Numbers line first many ≡ Malformed → ⊥
-some e = let z : _≡_ {A = ℕ} 0 1 = cc in omega arith
+pub numbers-some : {line first many : ℕ} → Numbers line first many ≡ Malformed → ⊥
+numbers-some e = let z : _≡_ {A = ℕ} 0 1 = cc in omega arith

@@ -5,12 +5,12 @@ use Prim.Native.Nat.{ℕ}
 use Rattle.generator.specs.Recurrence.{modulus, step, element}
 use Rattle.generator.specs.Check.{refusalOf}
 use Rattle.fields.specs.Ascii.{ascii}
-use Rattle.fields.specs.Digits.{lastDigits, digitsOf}
+use Rattle.decimals.specs.Digits.{lastDigits, digitsOf}
 use Rattle.fields.specs.Line.{fieldsLine, numbersFrom, isLine}
-use Rattle.lines.specs.Run.{shows, runRefusal}
-use Rattle.lines.specs.Line.{runAt}
+use Rattle.runs.specs.Run.{shows, runRefusal}
+use Rattle.lines.specs.Line.{runOf}
 use Rattle.lines.specs.ReadLine.{readOf}
-use Rattle.lines.specs.Remake.{shownFrom}
+use Rattle.remake.specs.Remake.{shownFrom}
 use Rattle.archive.specs.Archive.{linesOf, numbered}
 use Rattle.archive.specs.Check.{isAmong, firstRefused, checkOf}
 use Rattle.archive.specs.Line.{lineAt}
@@ -44,8 +44,8 @@ outcomes :
     ∷ outcome (ascii "2,0\n") unreadable
     ∷ outcome (ascii "2,0,8,1\n") two
     ∷ []
-    ≡ Part (runAt second) 0 8
-    ∷ Part (runAt second) 7 18446744073709551615
+    ≡ Part (runOf second) 0 8
+    ∷ Part (runOf second) 7 18446744073709551615
     ∷ Told NotFound
     ∷ Told NotFound
     ∷ Told NotFound
@@ -60,6 +60,6 @@ unfolding outcomeOf lineAt numbered checkOf firstRefused isAmong linesOf readOf 
     runRefusal refusalOf modulus
 outcomes = refl
 
-numbers : numbersLines (shownFrom (runAt second) 0 8) ≡ ascii "49\n742\n821\n434\n217\n606\n541\n1002\n"
+numbers : numbersLines (shownFrom (runOf second) 0 8) ≡ ascii "49\n742\n821\n434\n217\n606\n541\n1002\n"
 unfolding numbersLines shownFrom shows element step modulus fieldsLine digitsOf lastDigits
 numbers = refl

@@ -6,10 +6,10 @@ use native.Mathlib.Numerals.{add-one}
 use native.Mathlib.Omega.{arith}
 use lib.ListN.{length, getD, drop, length-append, drop-of-length-le}
 use lib.Seq.{drop-cons}
-use Rattle.fields.specs.Digits.{digitsOf}
+use Rattle.decimals.specs.Digits.{digitsOf}
 use Rattle.fields.specs.Line.{fieldsLine}
 use Rattle.fields.proofs.Codec.{FieldNext}
-use Rattle.fields.proofs.Digits.{digits-length}
+use Rattle.decimals.proofs.Digits.{digits-length}
 use Rattle.runshow_io.specs.Output.{numbersLines}
 
 one-line : (v : ℕ) (vs : List ℕ) → numbersLines (v ∷ vs) ≡ digitsOf v ++ (10 ∷ numbersLines vs)

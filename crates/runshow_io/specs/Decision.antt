@@ -4,7 +4,7 @@ use mathlib.Core.List.{List}
 use Prim.Native.Nat.{ℕ, zero, suc}
 use lib.Dec.{eqb, ltb}
 use lib.ListN.{getD}
-use Rattle.lines.specs.declared.Run.{Run}
+use Rattle.runs.specs.declared.Run.{Run}
 use Rattle.lines.specs.ReadLine.{readOf}
 use Rattle.archive.specs.Check.{checkOf}
 use Rattle.archive.specs.Line.{lineAt}
@@ -24,15 +24,15 @@ abbrev pub askedOf : Source → Question
 askedOf stdin = cond (isQuestion 3 stdin) (threeOf (numbersAsked stdin)) Malformed
 
 -- The run shows something there: the position is below its count, and some numbers are asked for.
-abbrev pub partOf : Run → ℕ → ℕ → Outcome
-partOf run first many = cond (ltb first (run .count)) (cond (eqb many 0) (Told NotFound) (Part run first many)) (Told NotFound)
+abbrev pub partOfRun : Run → ℕ → ℕ → Outcome
+partOfRun run first many = cond (ltb first (run .count)) (cond (eqb many 0) (Told NotFound) (Part run first many)) (Told NotFound)
 
 -- The archive is checked first. A line that is not there is the empty one, which reads as the run of zeros: no position is
 -- below its count.
 unfoldable pub outcomeOf : List ℕ → ℕ → ℕ → ℕ → Outcome
 outcomeOf bytes line first many =
     elim (checkOf bytes .refusal) [
-      | zero ↦ partOf (readOf (lineAt bytes line) .run) first many
+      | zero ↦ partOfRun (readOf (lineAt bytes line) .run) first many
       | suc n ↦ Told (Refused (suc n) (checkOf bytes .line))
     ]
 

@@ -4,9 +4,9 @@ use mathlib.Core.List.{List, [], _∷_, _++_}
 use Prim.Native.Nat.{ℕ, zero, suc, min}
 use Rattle.fields.specs.Line.{fieldsLine}
 use Rattle.fields.specs.Codec.{FrontWritten}
-use Rattle.lines.specs.declared.Run.{Run}
-use Rattle.lines.specs.Run.{runRefusal}
-use Rattle.lines.specs.Remake.{shownFrom, remadeCount}
+use Rattle.runs.specs.declared.Run.{Run}
+use Rattle.runs.specs.Run.{runRefusal}
+use Rattle.remake.specs.Remake.{shownFrom, remadeCount}
 use Rattle.runshow_io.specs.declared.output.Chunk.{Chunk}
 
 -- Each number as a line of its own.

@@ -1,12 +1,13 @@
 // The part of a run that a question asks for, from the bytes of the archive.
 ghost use mathlib.Core.Path.{_≡_};
-ghost use Rattle.runshow_io.specs.Decision.{outcomeOf, partOf};
+ghost use Rattle.runshow_io.specs.Decision.{outcomeOf, partOfRun};
 use archive::ArchiveCheck;
 use archive::Part;
+use archive::parts::part_of_line;
 use archive_io::notice::Notice;
-use lines::Run;
-use lines::RunAnswer;
+use lines::accepted::accepted_run;
 use refusals::number;
+use runs::Run;
 
 pub enum Outcome {
     // A run, a position below its count, and how many numbers are asked for, at least one.
@@ -15,8 +16,8 @@ pub enum Outcome {
 }
 
 // The numbers of `many` positions of a run, from position `first` on.
-pub fn part(run: Run, first: u64, many: u64) -> Outcome
-    ensures { λ r. ⌜ r ≡ partOf run first many ⌝ }
+pub fn part_of_run(run: Run, first: u64, many: u64) -> Outcome
+    ensures { λ r. ⌜ r ≡ partOfRun run first many ⌝ }
 {
     if first >= run.count {
         return Outcome::Told(Notice::NotFound);
@@ -27,6 +28,7 @@ pub fn part(run: Run, first: u64, many: u64) -> Outcome
     Outcome::Part(run, first, many)
 }
 
+// The archive is checked once: the line asked for is one of its lines, or it is not there.
 pub fn answer(bytes: &[u8], line: u64, first: u64, many: u64) -> Outcome
     ensures { λ r. ⌜ r ≡ outcomeOf (now (bytes .entry)) line first many ⌝ }
 {
@@ -34,8 +36,12 @@ pub fn answer(bytes: &[u8], line: u64, first: u64, many: u64) -> Outcome
     if let ArchiveCheck::Refused(refusal, at) = verdict {
         return Outcome::Told(Notice::Refused(number(refusal), at));
     }
-    let RunAnswer::Accepted(run) = lines::read_line(archive::line(bytes, line)) else {
+    let part = part_of_line(bytes, line);
+    let start = part.start;
+    let length = part.length;
+    if length == 0 {
         return Outcome::Told(Notice::NotFound);
-    };
-    part(run, first, many)
+    }
+    let end = start + length;
+    part_of_run(accepted_run(&bytes[start..end]), first, many)
 }

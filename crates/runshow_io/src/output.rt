@@ -7,10 +7,10 @@ use crate::answer::Outcome;
 use archive_io::notice::Notice;
 use archive_io::notice::print;
 use archive_io::notice::write_notice;
-use fields::field::write_field;
-use lines::Run;
-use lines::filling::fitting;
+use decimals::write_field;
 use refusals::ValueAnswer;
+use remake::filling::fitting;
+use runs::Run;
 
 // Writes the numbers to the front of a buffer, each with byte 10 behind it, and gives the number of bytes.
 pub fn write_numbers(buf: &mut [u8], numbers: &[u64]) -> usize
@@ -38,7 +38,7 @@ pub fn write_chunk(run: Run, position: u64, left: u64, numbers: &mut [u64], buf:
     requires { ⌜ 21 * length (now numbers) ≤ length (now buf) ⌝ }
     ensures { λ r. ⌜ ChunkPromise run position left (length (now (numbers .entry))) (now (buf .entry)) (now (buf .exit)) r ⌝ }
 {
-    let ValueAnswer::Value(n) = lines::remake(run, position, numbers) else {
+    let ValueAnswer::Value(n) = remake::remake(run, position, numbers) else {
         return Chunk { made: 0, bytes: 0 };
     };
     let made = fitting(n as usize, left);

@@ -6,6 +6,6 @@ fn main() {
     let mut bytes = [0u8; 65537];
     let archive = read_archive(&mut bytes);
     let n = archive.n;
-    let beyond = archive.rest;
-    print_output(&bytes[..n], beyond);
+    let rest = archive.rest;
+    print_output(&bytes[..n], rest);
 }

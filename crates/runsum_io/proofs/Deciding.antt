@@ -1,6 +1,6 @@
 -- What is printed, by the summary's reply: the text, for which the buffer has room, or the refusal. So is it for all that the
 -- file may hold, since an archive of more than 65,536 bytes is refused whatever follows.
-use mathlib.Core.Path.{_≡_, sym, ap, _∙_, subst}
+use mathlib.Core.Path.{_≡_, refl, sym, ap, _∙_, subst}
 use mathlib.Core.List.{List}
 use Prim.Native.Nat.{ℕ, suc, _≤_, _<_}
 use native.Mathlib.Omega.{arith}
@@ -9,22 +9,22 @@ use Rattle.fields.specs.Codec.{FrontWritten}
 use Rattle.refusals.specs.declared.Refusal.{Refusal}
 use Rattle.refusals.specs.Refusals.{numberOf}
 use Rattle.refusals.proofs.Replies.{number-suc}
-use Rattle.archive.specs.declared.SummaryAnswer.{SummaryAnswer}
-use Rattle.archive.specs.declared.SummaryAnswer.the-variants as summary
-use Rattle.archive.specs.declared.SummaryReply.{SummaryReply}
+use Rattle.summary.specs.declared.SummaryAnswer.{SummaryAnswer}
+use Rattle.summary.specs.declared.SummaryAnswer.the-variants as summary
+use Rattle.summary.specs.declared.SummaryReply.{SummaryReply}
 use Rattle.archive.specs.Archive.{runsIn}
 use Rattle.archive.specs.Check.{checkOf}
-use Rattle.archive.specs.Summary.{totalOf, summaryGiven, summaryRefused, summaryReply, summaryOf, SummaryPromise}
+use Rattle.summary.specs.Summary.{totalOf, summaryGiven, summaryRefused, plainSummary, summaryOf, SummaryPromise}
 use Rattle.archive.proofs.Checking.{check-lines}
-use Rattle.archive.proofs.Summing.{summary-long, summary-sums}
+use Rattle.summary.proofs.Summaries.{summary-long, summary-sums}
 use Rattle.archive_io.specs.declared.input.Rest.{Rest}
 use Rattle.archive_io.specs.declared.input.Rest.the-variants.{Nothing, Unknown, Failed}
 use Rattle.archive_io.specs.declared.notice.Notice.the-variants.{Refused, Unread}
 use Rattle.archive_io.specs.Notice.{noticeLine}
-use Rattle.archive_io.specs.Source.{Source}
 use Rattle.archive_io.specs.Input.{Enough}
-use Rattle.archive_io.proofs.Deciding.{some-source, file-all, file-front, file-unread}
-use Rattle.archive_io.proofs.FrontWriting.{within}
+use Rattle.archive_io.specs.Decision.{Decided}
+use Rattle.archive_io.proofs.Deciding.{source-some, decided-all, decided-front, decided-unread}
+use Rattle.archive_io.proofs.FrontWriting.{front-within}
 use Rattle.runsum_io.specs.Text.{summaryText}
 use Rattle.runsum_io.specs.Output.{outputOf, outputFor, OutputPromise}
 use Rattle.runsum_io.proofs.Lengths.{text-short}
@@ -42,10 +42,10 @@ output-declined bytes {n} e =
     rw (number, outputOf) (ap (λ (line : ℕ). noticeLine (Refused (suc n) line)) (ap (λ (r : SummaryReply). r .line) e))
 
 -- The answer of the call.
-module _ {bytes : List ℕ} (answer : SummaryAnswer) (p : SummaryPromise bytes (summaryReply answer)) where
+module _ {bytes : List ℕ} (answer : SummaryAnswer) (p : SummaryPromise bytes (plainSummary answer)) where
   module _ {lines total : ℕ} (e : answer ≡ summary.Sum lines total) where
     given : summaryGiven lines total ≡ summaryOf bytes
-    given = ap (λ (a : SummaryAnswer). summaryReply a) (sym e) ∙ p .equals
+    given = ap (λ (a : SummaryAnswer). plainSummary a) (sym e) ∙ p .equals
 
     none : summaryOf bytes .refusal ≡ 0
     none = sym (ap (λ (r : SummaryReply). r .refusal) given)
@@ -69,33 +69,34 @@ module _ {bytes : List ℕ} (answer : SummaryAnswer) (p : SummaryPromise bytes (
       FrontWritten (outputOf bytes) before after n
   refusal-told {x} {number} {line} {before} {after} {n} e same w =
       let k = number-suc x in
-      let declined = sym (p .equals) ∙ ap (λ (a : SummaryAnswer). summaryReply a) e ∙ ap (λ (m : ℕ). summaryRefused m line) (k .1) in
+      let declined = sym (p .equals) ∙ ap (λ (a : SummaryAnswer). plainSummary a) e ∙ ap (λ (m : ℕ). summaryRefused m line) (k .1) in
       subst (λ (text : List ℕ). FrontWritten text before after n)
       (ap (λ (m : ℕ). noticeLine (Refused m line)) (same ∙ k .1) ∙ sym (output-declined bytes declined))
       w
 
 -- For all that the file may hold.
-too-long : (bytes : List ℕ) → 65536 < length bytes → outputOf bytes ≡ noticeLine (Refused 1 0)
-too-long bytes l = output-declined bytes (summary-long bytes l)
+output-long : (bytes : List ℕ) → 65536 < length bytes → outputOf bytes ≡ noticeLine (Refused 1 0)
+output-long bytes l = output-declined bytes (summary-long bytes l)
 
-as-printed : {text before after : List ℕ} {n : ℕ} → FrontWritten text before after n → (file : Source) → text ≡ outputFor file →
-    FrontWritten (outputFor file) before after n
-as-printed {before = before} {after} {n} w file e = subst (λ (text : List ℕ). FrontWritten text before after n) e w
+module _ {archive before after : List ℕ} {rest : Rest} {n : ℕ} where
+  output-decided : {text : List ℕ} → FrontWritten text before after n → Decided outputFor archive rest text →
+      OutputPromise archive rest before after n
+  output-decided w d =
+      record { written = λ file r. subst (λ (text : List ℕ). FrontWritten text before after n) (d .is file r) w }
 
-module _ {archive before after : List ℕ} {beyond : Rest} {n : ℕ} where
-  pub output-all : beyond ≡ Nothing → FrontWritten (outputOf archive) before after n → OutputPromise archive beyond before after n
-  output-all t w = record { written = λ file r. as-printed w file (file-all outputFor archive t file r) }
+  pub output-all : rest ≡ Nothing → FrontWritten (outputOf archive) before after n → OutputPromise archive rest before after n
+  output-all t w = output-decided w (decided-all outputFor t refl)
 
-  pub output-front : beyond ≡ Unknown → Enough 65537 (length archive) beyond → FrontWritten (outputOf archive) before after n →
-      OutputPromise archive beyond before after n
-  output-front t h w = record { written = λ file r. as-printed w file (file-front outputFor archive too-long t h file r) }
+  pub output-front : rest ≡ Unknown → Enough 65537 (length archive) rest → FrontWritten (outputOf archive) before after n →
+      OutputPromise archive rest before after n
+  output-front t h w = output-decided w (decided-front outputFor output-long t h refl)
 
-  pub output-unread : beyond ≡ Failed → FrontWritten (noticeLine Unread) before after n → OutputPromise archive beyond before after n
-  output-unread t w = record { written = λ file r. as-printed w file (file-unread outputFor archive t file r) }
+  pub output-unread : rest ≡ Failed → FrontWritten (noticeLine Unread) before after n → OutputPromise archive rest before after n
+  output-unread t w = output-decided w (decided-unread outputFor t refl)
 
 -- what is to be printed is within the buffer
-pub output-within : {archive before after : List ℕ} {beyond : Rest} {n : ℕ} → OutputPromise archive beyond before after n →
+pub output-within : {archive before after : List ℕ} {rest : Rest} {n : ℕ} → OutputPromise archive rest before after n →
     n ≤ length after
-output-within {archive} {beyond = beyond} p =
-    let file = some-source archive beyond in
-    within (p .written (file .0) (file .1))
+output-within {archive} {rest = rest} p =
+    let file = source-some archive rest in
+    front-within (p .written (file .0) (file .1))

@@ -2,20 +2,19 @@
 use mathlib.Core.Path.{_≡_, refl}
 use mathlib.Core.List.{[], _∷_, map}
 use Rattle.sequences.specs.Least.{least}
-use Rattle.sequences.specs.Index.{indexOf}
-use Rattle.sequences.specs.Gap.{occurs}
+use Rattle.sequences.specs.Index.{indexOf, occurs}
 use Rattle.sequences.specs.Distinct.{countOf, isNew, distinctOf}
 use Rattle.generator.specs.Recurrence.{modulus, step, element}
 use Rattle.generator.specs.Check.{refusalOf}
 use Rattle.fields.specs.Ascii.{ascii}
-use Rattle.fields.specs.Digits.{lastDigits, digitsOf}
+use Rattle.decimals.specs.Digits.{lastDigits, digitsOf}
 use Rattle.fields.specs.Line.{fieldsLine, numbersFrom, isLine}
-use Rattle.lines.specs.Run.{shows, runRefusal}
+use Rattle.runs.specs.Run.{shows, runRefusal}
 use Rattle.lines.specs.ReadLine.{readOf}
-use Rattle.lines.specs.Variety.{varietyOf}
+use Rattle.variety.specs.Variety.{varietyOf}
 use Rattle.archive.specs.Archive.{linesOf}
 use Rattle.archive.specs.Check.{isAmong, firstRefused, checkOf}
-use Rattle.archive.specs.Summary.{totalOf, runsSummary, summaryOf}
+use Rattle.summary.specs.Summary.{totalOf, runsSummary, summaryOf}
 use Rattle.archive_io.specs.Source.{holds, unreadable}
 use Rattle.runsum_io.specs.Text.{runsText, summaryText}
 use Rattle.runsum_io.specs.Output.{outputOf, outputFor}

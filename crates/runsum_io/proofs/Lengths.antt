@@ -1,24 +1,24 @@
--- How long the text is. A line of the archive has a digit for each of five fields, the digits of its count and six marks. Its
--- line of the text has the digits of its number, 19 at most, those of its count and of its variety, which has no more, and
--- three marks: so no more than twice the bytes. The total has 20 digits at most.
+-- How long the text is. A line of the archive has a digit for each of five fields, the digits of its count and six
+-- delimiters. Its line of the text has the digits of its number, 19 at most, those of its count and of its variety, which has
+-- no more, and three delimiters: so no more than twice the bytes. The total has 20 digits at most.
 use mathlib.Core.Path.{_≡_, ap}
 use mathlib.Core.List.{List, [], _∷_}
 use Prim.Native.Nat.{ℕ, suc, _+_, _*_, _^_, _≤_, _<_}
 use native.Mathlib.Omega.{arith}
 use lib.ListN.{length, length-append}
 use Rattle.sequences.proofs.Distinct.{distinct-within}
-use Rattle.fields.specs.Digits.{digitsOf}
+use Rattle.decimals.specs.Digits.{digitsOf}
 use Rattle.fields.specs.Line.{fieldsLine}
-use Rattle.fields.proofs.Digits.{digits-nonempty, digits-length, digits-fewer}
-use Rattle.lines.specs.declared.Run.{Run}
-use Rattle.lines.specs.Run.{shows}
+use Rattle.decimals.proofs.Digits.{digits-nonempty, digits-length, digits-fewer}
+use Rattle.runs.specs.declared.Run.{Run}
+use Rattle.runs.specs.Run.{shows}
 use Rattle.lines.specs.Line.{lineOf}
-use Rattle.lines.specs.Variety.{varietyOf}
-use Rattle.lines.proofs.Runs.{line-length}
+use Rattle.variety.specs.Variety.{varietyOf}
+use Rattle.lines.proofs.Lines.{line-length}
 use Rattle.archive.specs.Archive.{runsIn, archiveOf}
-use Rattle.archive.specs.Summary.{totalOf}
+use Rattle.summary.specs.Summary.{totalOf}
 use Rattle.archive.proofs.Checking.{check-accepts}
-use Rattle.archive.proofs.Summing.{summary-sums}
+use Rattle.summary.proofs.Summaries.{summary-sums}
 use Rattle.runsum_io.specs.Text.{runText, runsText, totalText, summaryText, TextShort}
 use Rattle.runsum_io.proofs.Writing.{runs-first}
 

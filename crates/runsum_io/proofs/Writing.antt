@@ -7,15 +7,10 @@ use Prim.Native.Nat.{ℕ, suc, _+_, _-_, _≤_, _<_}
 use native.Mathlib.Omega.{arith}
 use lib.ListN.{length, take, drop, length-append}
 use Rattle.fields.specs.Codec.{FrontWritten}
-use Rattle.refusals.specs.declared.ValueAnswer.{ValueAnswer}
-use Rattle.refusals.specs.declared.ValueReply.{ValueReply}
-use Rattle.refusals.specs.Replies.{valueReply, plainValue}
-use Rattle.lines.specs.declared.Run.{Run}
-use Rattle.lines.specs.Run.{runRefusal}
+use Rattle.runs.specs.declared.Run.{Run}
 use Rattle.lines.specs.ReadLine.{runIn}
-use Rattle.lines.specs.Variety.{varietyOf, VarietyPromise}
 use Rattle.archive.specs.Archive.{linesOf, runsIn}
-use Rattle.archive.specs.Summary.{totalOf}
+use Rattle.summary.specs.Summary.{totalOf}
 use Rattle.archive.specs.declared.parts.NextRun.{NextRun}
 use Rattle.archive.specs.Parts.{LineRun}
 use Rattle.archive.proofs.Folding.{Fold, fold-start, fold-line, fold-next, fold-end}
@@ -27,12 +22,6 @@ use Rattle.runsum_io.specs.Text.{runText, runsText, totalText, summaryTe
 pub runs-first : (k : ℕ) (run : Run) (runs : List Run) → runsText k (run ∷ runs) ≡ runText k run ++ runsText (suc k) runs
 unfolding runsText
 runs-first k run runs = refl
-
--- the variety of an accepted run
-pub variety-is : {run : Run} {reply : ValueReply} (answer : ValueAnswer) → runRefusal run ≡ 0 →
-    VarietyPromise run (plainValue answer) → reply ≡ plainValue answer → reply .value ≡ varietyOf run
-variety-is {run} answer z p e =
-    ap (λ (r : ValueReply). r .value) (e ∙ p .equals ∙ ap (λ (n : ℕ). valueReply n (varietyOf run)) z)
 
 -- The loop.
 abbrev texting : ℕ → List ℕ → List (List ℕ) → List ℕ

@@ -2,7 +2,7 @@
 use mathlib.Core.List.{List}
 use Prim.Native.Nat.{ℕ, zero, suc}
 use Rattle.fields.specs.Codec.{FrontWritten}
-use Rattle.archive.specs.Summary.{summaryOf}
+use Rattle.summary.specs.Summary.{summaryOf}
 use Rattle.archive_io.specs.declared.input.Rest.{Rest}
 use Rattle.archive_io.specs.declared.notice.Notice.the-variants.{Refused, Unread}
 use Rattle.archive_io.specs.Notice.{noticeLine}
@@ -22,5 +22,5 @@ outputFor (holds bytes) = outputOf bytes
 outputFor unreadable = noticeLine Unread
 
 -- The promise: whatever the file holds, what is written to the buffer's front is what is to be printed.
-pub record OutputPromise (archive : List ℕ) (beyond : Rest) (before after : List ℕ) (n : ℕ) : Type 0 where
-  pub written : (file : Source) → ReadOf file archive beyond → FrontWritten (outputFor file) before after n
+pub record OutputPromise (archive : List ℕ) (rest : Rest) (before after : List ℕ) (n : ℕ) : Type 0 where
+  pub written : (file : Source) → ReadOf file archive rest → FrontWritten (outputFor file) before after n

@@ -5,10 +5,10 @@ use Prim.Native.Nat.{ℕ, suc, _+_, _*_, _≤_}
 use lib.ListN.{length}
 use Rattle.fields.specs.Line.{fieldsLine}
 use Rattle.fields.specs.Ascii.{ascii}
-use Rattle.lines.specs.declared.Run.{Run}
-use Rattle.lines.specs.Variety.{varietyOf}
+use Rattle.runs.specs.declared.Run.{Run}
+use Rattle.variety.specs.Variety.{varietyOf}
 use Rattle.archive.specs.Archive.{runsIn}
-use Rattle.archive.specs.Summary.{totalOf, summaryOf}
+use Rattle.summary.specs.Summary.{totalOf, summaryOf}
 
 -- For each run its number, count and variety, the runs numbered from k on.
 abbrev pub runText : ℕ → Run → List ℕ

@@ -3,16 +3,16 @@ ghost use mathlib.Core.Path.{_≡_};
 ghost use Prim.Native.Nat.{_≤_};
 ghost use lib.ListN.{length};
 ghost use Rattle.fields.specs.Codec.{FrontWritten};
-ghost use Rattle.lines.specs.Run.{runRefusal};
+ghost use Rattle.runs.specs.Run.{runRefusal};
 ghost use Rattle.archive.specs.Archive.{runsIn};
 ghost use Rattle.archive.specs.Check.{checkOf};
-ghost use Rattle.archive.specs.Summary.{totalOf};
+ghost use Rattle.summary.specs.Summary.{totalOf};
 ghost use Rattle.runsum_io.specs.Text.{runText, runsText, totalText, summaryText};
 use archive::parts::next_run;
 use archive_io::notice::write_word;
 use fields::line;
-use lines::Run;
-use refusals::of_value;
+use runs::Run;
+use variety::counts::variety_of;
 
 // The line of an accepted run: its number, count and variety.
 fn write_run(buf: &mut [u8], number: u64, run: Run) -> usize
@@ -20,7 +20,7 @@ fn write_run(buf: &mut [u8], number: u64, run: Run) -> usize
     requires { ⌜ length (runText number run) ≤ length (now buf) ⌝ }
     ensures { λ r. ⌜ FrontWritten (runText number run) (now (buf .entry)) (now (buf .exit)) r ⌝ }
 {
-    let variety = of_value(lines::variety(run)).value;
+    let variety = variety_of(run);
     line::write(buf, &[number, run.count, variety])
 }
 

@@ -13,7 +13,7 @@ use native.Mathlib.Omega.{arith}
 use Rattle.words.proofs.Congruence.{same-sym, same-regroup}
 use Rattle.sequences.specs.Orbit.{IsOrbit}
 use Rattle.sequences.specs.Distinct.{countOf, isNew, distinctOf, Distinct}
-use Rattle.sequences.proofs.Indices.{occurs-at, occurs-nowhere}
+use Rattle.sequences.proofs.IndexOf.{occurs-at, occurs-nowhere}
 use Rattle.sequences.proofs.Orbits.{Follows, congruent-gap, equal-exactly, orbit-value, orbit-from}
 
 -- a test that, of the numbers below n, holds at those below a limit and at no other

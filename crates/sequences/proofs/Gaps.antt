@@ -23,11 +23,11 @@ use Rattle.words.proofs.Congruence.{
   same-add-cancel,
   same-below,
 }
-use Rattle.sequences.specs.Index.{Located, Absent}
+use Rattle.sequences.specs.Index.{Located, Absent, occurs}
 use Rattle.sequences.specs.Orbit.{IsOrbit}
-use Rattle.sequences.specs.Gap.{occurs, aheadOf, signedOf, stepsOf, stepped, Leads, InRange, Between, Ahead}
+use Rattle.sequences.specs.Gap.{aheadOf, signedOf, stepsOf, stepped, Leads, InRange, SignedSteps, Ahead}
 use Rattle.sequences.proofs.Least.{least-unique}
-use Rattle.sequences.proofs.Indices.{located-is, occurs-at, occurs-nowhere}
+use Rattle.sequences.proofs.IndexOf.{located-is, occurs-at, occurs-nowhere}
 use Rattle.sequences.proofs.Orbits.{Follows, congruent-gap, congruent-equal, equal-congruent}
 
 -- x goes on by single steps
@@ -174,7 +174,7 @@ module _ {next x : ℕ → ℕ} {P : ℕ} (s : Steps next x) (o : IsOrbit x 0 P)
     gap-is = ap (signedOf P) ahead-is
 
     -- and it means what it should
-    pub gap-found : Between next x P from to 1 (signedOf P d)
+    pub gap-found : SignedSteps next x P from to 1 (signedOf P d)
     gap-found =
         rw (← f .yields, ← t .yields)
         (record {
@@ -187,7 +187,7 @@ module _ {next x : ℕ → ℕ} {P : ℕ} (s : Steps next x) (o : IsOrbit x 0 P)
           never = (λ q. absurd (omega arith), ⊎-elim (λ n. absurd (n i refl)) (λ n. absurd (n j refl)));
         })
 
-  pub gap-never : {from to : ℕ} → Absent x from ⊎ Absent x to → Between next x P from to 0 (pos 0)
+  pub gap-never : {from to : ℕ} → Absent x from ⊎ Absent x to → SignedSteps next x P from to 0 (pos 0)
   gap-never n =
       record {
         period = o;

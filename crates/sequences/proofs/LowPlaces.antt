@@ -2,7 +2,7 @@
 -- with those of the sequence. So it is isometric or contracting where the sequence is; equal elements of it then have equal
 -- successors; and a search that settles m places of the sequence finds the indices of a number in it. The low n places of a
 -- sequence of n places are the sequence itself.
-use mathlib.Core.Path.{_≡_, refl, ap, _∙_}
+use mathlib.Core.Path.{_≡_, refl, ap, subst, fun-ext}
 use mathlib.Core.Logic.{_↔_, Iff·trans}
 use Prim.Native.Nat.{ℕ, suc, _%_, _^_, _≤_, _<_}
 use native.Mathlib.Nat.{le-refl, le-trans, lt-of-lt-of-le, mod-lt, mod-eq-of-lt}
@@ -13,13 +13,14 @@ use Rattle.words.proofs.Congruence.{mod-lower}
 use Rattle.sequences.specs.Index.{indexOf, Located, Absent}
 use Rattle.sequences.specs.Orbit.{IsOrbit}
 use Rattle.sequences.specs.Places.{Settles}
-use Rattle.sequences.specs.Occurrences.{low, Recurring}
+use Rattle.sequences.specs.Occurrences.{low, Recurring, IndicesAre}
 use Rattle.sequences.proofs.Least.{least-same}
 use Rattle.sequences.proofs.Orbits.{Follows}
 use Rattle.sequences.proofs.Agreement.{Agree, Reduced, agree-of-eq, agree-sym, agree-trans, agree-lower, reduced-eq}
 use Rattle.sequences.proofs.Isometric.{Isometric}
-use Rattle.sequences.proofs.Search.{settles-found, settles-orbit}
+use Rattle.sequences.proofs.Matching.{settles-found, settles-orbit}
 use Rattle.sequences.proofs.Contracting.{Contracting, next-equal, resting, rest-orbit}
+use Rattle.sequences.specs.declared.Indices.{Indices}
 
 -- the definition, and that its elements have m places
 pub low-is : (m : ℕ) (x : ℕ → ℕ) (i : ℕ) → low m x i ≡ x i % 2 ^ m
@@ -131,18 +132,10 @@ module _ {n : ℕ} {x : ℕ → ℕ} (red : Reduced n x) where
   unfolding low
   low-whole i = mod-eq-of-lt (red .below i)
 
-  pub whole-located : {y bound k : ℕ} → Located (low n x) y bound k → Located x y bound k
-  whole-located {k = k} h =
-      record {
-        below = h .below;
-        yields = rw low-whole at (h .yields);
-        first = λ i e. h .first i (low-whole i ∙ e);
-      }
+  pub whole-indices : (y bound : ℕ) (r : Indices) → IndicesAre (low n x) y bound r → IndicesAre x y bound r
+  whole-indices y bound r h = subst (λ (z : ℕ → ℕ). IndicesAre z y bound r) (fun-ext low-whole) h
 
   -- the definition of the index finds the same
   pub whole-index : (bound y : ℕ) → indexOf (low n x) bound y ≡ indexOf x bound y
   unfolding indexOf
   whole-index bound y = least-same bound (λ i. ap (λ (v : ℕ). eqb v y) (low-whole i))
-
-  pub whole-absent : {y : ℕ} → Absent (low n x) y → Absent x y
-  whole-absent h = record { none = λ i e. h .none i (low-whole i ∙ e) }

@@ -17,10 +17,10 @@ use Rattle.words.proofs.Congruence.{
   same-add-cancel,
 }
 use Rattle.sequences.specs.Index.{Located, Absent}
-use Rattle.sequences.specs.Orbit.{returnOf, preperiodOf, periodOf, IsOrbit}
+use Rattle.sequences.specs.Orbit.{returnLessOne, preperiodOf, periodOf, IsOrbit}
 use Rattle.sequences.specs.Occurrences.{AllIndices, Alone, Recurring}
-use Rattle.sequences.proofs.Indices.{located-demand, absent-demand}
-use Rattle.sequences.proofs.Orbits.{Follows, congruent-equal, equal-congruent, return-from, no-return, preperiod-is, period-is}
+use Rattle.sequences.proofs.IndexOf.{located-least, absent-least}
+use Rattle.sequences.proofs.Orbits.{Follows, congruent-equal, equal-congruent, orbit-value, orbit-only, return-from, no-return, preperiod-is, period-is}
 
 -- Before the preperiod.
 module _ {x : ℕ → ℕ} {y bound k : ℕ} (a : Alone x y bound k) where
@@ -36,9 +36,9 @@ module _ {x : ℕ → ℕ} {y bound k : ℕ} (a : Alone x y bound k) where
 
   pub alone-all : (every : ℕ) → AllIndices x y 1 k 0 every
   alone-all every =
-      record { least = located-demand (a .located); once = λ f r. alone-only; again = λ f r. absurd (omega arith) }
+      record { least = located-least (a .located); once = λ f r. alone-only; again = λ f r. absurd (omega arith) }
 
-  pub alone-return : returnOf x bound k ≡ bound
+  pub alone-return : returnLessOne x bound k ≡ bound
   alone-return = no-return (a .orbit) (a .room) k (a .before)
 
   pub alone-before : k < preperiodOf x bound
@@ -67,12 +67,12 @@ module _ {x : ℕ → ℕ} {y bound k P : ℕ} (r : Recurring x y bound k P) whe
     pub recurring-all : AllIndices x y 1 k 1 P
     recurring-all =
         record {
-          least = located-demand (r .located);
+          least = located-least (r .located);
           once = λ q z. absurd (omega arith);
           again = λ q z. recurring-exactly;
         }
 
-    pub recurring-return : returnOf x bound k ≡ P - 1
+    pub recurring-return : returnLessOne x bound k ≡ P - 1
     recurring-return = return-from (r .orbit) (r .room) f k (r .reached)
 
   pub recurring-period : periodOf x bound ≡ P
@@ -82,10 +82,32 @@ module _ {x : ℕ → ℕ} {y bound k P : ℕ} (r : Recurring x y bound k P) whe
 pub absent-all : {x : ℕ → ℕ} {y : ℕ} (every : ℕ) → Absent x y → AllIndices x y 0 0 0 every
 absent-all every h =
     record {
-      least = absent-demand h;
+      least = absent-least h;
       once = λ f r. absurd (omega arith);
       again = λ f r. absurd (omega arith);
     }
+
+-- Where there is no preperiod, no index is the only one, and the least one lies below the period.
+module _ {x : ℕ → ℕ} {P : ℕ} (o : IsOrbit x 0 P) {y bound : ℕ} where
+  pub alone-nowhere : {k : ℕ} → Alone x y bound k → ⊥
+  alone-nowhere a = omega (arith, a .before, orbit-only (a .orbit) o .0)
+
+  pub recurring-located : {k Q : ℕ} → Follows x → Recurring x y bound k Q → (Q ≡ P) × Located x y Q k
+  recurring-located {k} {Q} f r = (
+    orbit-only (r .orbit) o .1,
+    record {
+      below =
+          let v = orbit-value f (r .orbit) k in
+          omega (
+            arith,
+            v .below,
+            r .located .first (v .index) (v .yields ∙ r .located .yields),
+            orbit-only (r .orbit) o .0,
+          );
+      yields = r .located .yields;
+      first = r .located .first;
+    },
+  )
 
 -- Where the period is 1, what comes again stays: the next element tells how it goes on.
 module _ {x : ℕ → ℕ} {t y bound k : ℕ} (o : IsOrbit x t 1) (room : t < bound) (h : Located x y bound k) where

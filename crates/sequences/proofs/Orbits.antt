@@ -12,8 +12,9 @@ use native.Mathlib.Decide.{ℕ-discrete, decLe, decLt}
 use native.Mathlib.Omega.{arith}
 use borrow.Author.Tests.{eq-eqb, ne-eqb, lt-ltb, le-ltb}
 use Rattle.words.proofs.Congruence.{Congruent, from-multiples, to-multiples, same-sym, same-below}
-use Rattle.sequences.specs.Orbit.{returnOf, preperiodOf, periodOf, IsOrbit, exponentOf}
+use Rattle.sequences.specs.Orbit.{returnLessOne, preperiodOf, periodOf, IsOrbit, exponentOf, OrbitIs}
 use Rattle.sequences.proofs.Least.{least-unique}
+use Rattle.sequences.specs.declared.Orbit.{Orbit}
 
 -- equal elements have equal successors
 pub record Follows (x : ℕ → ℕ) : Type 0 where
@@ -153,8 +154,8 @@ return-orbit {x} {P} l law =
 
 -- The definitions. An element that comes again after P indices, and not after fewer:
 return-after : (x : ℕ → ℕ) {P bound : ℕ} (k : ℕ) → 1 ≤ P → P ≤ bound → x (k + P) ≡ x k →
-    ((d : ℕ) → 1 ≤ d → x (k + d) ≡ x k → P ≤ d) → returnOf x bound k ≡ P - 1
-unfolding returnOf
+    ((d : ℕ) → 1 ≤ d → x (k + d) ≡ x k → P ≤ d) → returnLessOne x bound k ≡ P - 1
+unfolding returnLessOne
 return-after x {P} k positive within returns shortest =
     least-unique
     (record {
@@ -168,18 +169,18 @@ return-after x {P} k positive within returns shortest =
     })
 
 module _ {x : ℕ → ℕ} {t P bound : ℕ} (o : IsOrbit x t P) (within : t + P ≤ bound) where
-  return-is : returnOf x bound t ≡ P - 1
+  return-is : returnLessOne x bound t ≡ P - 1
   return-is = return-after x t (o .positive) (omega arith) (o .returns) (o .shortest)
 
   -- and from t on every element comes again after P indices
-  pub return-from : Follows x → (k : ℕ) → t ≤ k → returnOf x bound k ≡ P - 1
+  pub return-from : Follows x → (k : ℕ) → t ≤ k → returnLessOne x bound k ≡ P - 1
   return-from f k l =
       return-after x k (o .positive) (omega arith) (once-round f o k l)
       (λ d b e. congruent-gap (same-sym (equal-congruent f o {i = k} {j = k + d} l (omega arith) (sym e))) b)
 
   -- before the preperiod no element returns
-  pub no-return : (i : ℕ) → i < t → returnOf x bound i ≡ bound
-  unfolding returnOf
+  pub no-return : (i : ℕ) → i < t → returnLessOne x bound i ≡ bound
+  unfolding returnLessOne
   no-return i l =
       least-unique
       (record {
@@ -194,8 +195,8 @@ module _ {x : ℕ → ℕ} {t P bound : ℕ} (o : IsOrbit x t P) (within : t + P
       least-unique
       (record {
         within = omega arith;
-        holds = λ h. lt-ltb (returnOf x bound t) bound (rw return-is (omega (arith, o .positive)));
-        first = λ i l. le-ltb (returnOf x bound i) bound (rw (no-return i l) (le-refl bound));
+        holds = λ h. lt-ltb (returnLessOne x bound t) bound (rw return-is (omega (arith, o .positive)));
+        first = λ i l. le-ltb (returnLessOne x bound i) bound (rw (no-return i l) (le-refl bound));
       })
 
   pub period-is : periodOf x bound ≡ P
@@ -211,3 +212,18 @@ exponent-is e l =
       holds = λ h. eq-eqb (2 ^ e) (2 ^ e) refl;
       first = λ j h. ne-eqb (2 ^ j) (2 ^ e) (λ q. omega (arith, pow-lt h));
     })
+
+-- An orbit is the only one.
+pub orbit-only : {x : ℕ → ℕ} {t P u Q : ℕ} → IsOrbit x t P → IsOrbit x u Q → (t ≡ u) × (P ≡ Q)
+orbit-only {t = t} {P} {u} {Q} o q = (
+  sym (preperiod-is {bound = t + P + (u + Q)} o (omega arith)) ∙ preperiod-is {bound = t + P + (u + Q)} q (omega arith),
+  sym (period-is {bound = t + P + (u + Q)} o (omega arith)) ∙ period-is {bound = t + P + (u + Q)} q (omega arith),
+)
+
+-- The orbit in plain data, as the definitions find it; and a number that no index below the bound yields is never yielded.
+module _ {x : ℕ → ℕ} {bound : ℕ} {o : Orbit} (is : OrbitIs x bound o) where
+  pub orbit-room : o .preperiod + suc (o .last) ≤ bound
+  orbit-room = omega (arith, is .within)
+
+  pub orbit-is-never : Follows x → {y : ℕ} → ((i : ℕ) → i < bound → x i ≡ y → ⊥) → (i : ℕ) → x i ≡ y → ⊥
+  orbit-is-never f d = orbit-never f (is .orbit) (λ i l. d i (omega (arith, orbit-room)))

@@ -2,7 +2,7 @@
 use mathlib.Core.Path.{_≡_}
 use mathlib.Core.Bool.{Bool, cond, not}
 use Prim.Native.Nat.{ℕ, zero, suc, _+_, _≤_, _<_}
-use Rattle.sequences.specs.Gap.{occurs}
+use Rattle.sequences.specs.Index.{occurs}
 
 -- The count of the numbers below n at which the test holds.
 unfoldable pub countOf : (ℕ → Bool) → ℕ → ℕ

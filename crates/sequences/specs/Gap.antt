@@ -2,7 +2,7 @@
 -- SCOPE 3.7). The definition searches below P; the record says what it finds in the note's words, by steps from the numbers.
 -- The integers are the kit's: `pos n` is n, and `negsuc n` is −(n + 1).
 use mathlib.Core.Path.{_≡_}
-use mathlib.Core.Bool.{Bool, cond}
+use mathlib.Core.Bool.{cond}
 use mathlib.Core.Logic.{_↔_, _⊎_}
 use Prim.Native.Nat.{ℕ, zero, suc, _+_, _*_, _<_}
 use lib.Dec.{eqb, ltb}
@@ -12,10 +12,6 @@ use Rattle.words.specs.Congruence.{Congruent}
 use Rattle.sequences.specs.Least.{least}
 use Rattle.sequences.specs.Index.{indexOf}
 use Rattle.sequences.specs.Orbit.{IsOrbit}
-
--- Whether one of the first P indices yields y.
-unfoldable pub occurs : (ℕ → ℕ) → ℕ → ℕ → Bool
-occurs x P y = ltb (indexOf x P y) P
 
 -- The least d for which x yields `to` d indices after the first index of `from`; P if there is none below it.
 unfoldable pub aheadOf : (ℕ → ℕ) → ℕ → ℕ → ℕ → ℕ
@@ -47,7 +43,7 @@ pub record InRange (P : ℕ) (d : ℤ) : Type 0 where
 -- What the gap means, in a sequence x of single steps `next` that goes round from its first element on, with the period P:
 -- the count given leads from one number to the other and is in the range; no other one in the range does; never comes exactly
 -- when one of the two has no index, however large.
-pub record Between (next x : ℕ → ℕ) (P from to found : ℕ) (steps : ℤ) : Type 0 where
+pub record SignedSteps (next x : ℕ → ℕ) (P from to found : ℕ) (steps : ℤ) : Type 0 where
   pub period : IsOrbit x 0 P
   pub leads : found ≡ 1 → Leads next from to steps
   pub in-range : found ≡ 1 → InRange P steps

@@ -2,16 +2,21 @@
 use mathlib.Core.Path.{_≡_}
 use mathlib.Core.Logic.{_↔_}
 use Prim.Native.Nat.{ℕ, _≤_, _<_}
-use lib.Dec.{eqb}
+use mathlib.Core.Bool.{Bool}
+use lib.Dec.{eqb, ltb}
 use Rattle.sequences.specs.Least.{least}
 
 -- The least index below the bound at which x yields y; the bound if there is none.
 unfoldable pub indexOf : (ℕ → ℕ) → ℕ → ℕ → ℕ
 indexOf x bound y = least (λ i. eqb (x i) y) bound
 
+-- Whether one of the first P indices yields y.
+unfoldable pub occurs : (ℕ → ℕ) → ℕ → ℕ → Bool
+occurs x P y = ltb (indexOf x P y) P
+
 -- Demand 3 of the index call, in its own words, for indices without end: the reported index yields the number; every
 -- other index that yields it is higher; never comes exactly when no index, however large, yields it.
-pub record Demand3 (x : ℕ → ℕ) (y found index : ℕ) : Type 0 where
+pub record LeastIndex (x : ℕ → ℕ) (y found index : ℕ) : Type 0 where
   pub yields : found ≡ 1 → x index ≡ y
   pub others-higher : found ≡ 1 → (i : ℕ) → x i ≡ y → (i ≡ index → ⊥) → index < i
   pub never : (found ≡ 0) ↔ ((i : ℕ) → x i ≡ y → ⊥)

@@ -2,8 +2,8 @@
 use crate::numbers::Bytes;
 use crate::numbers::read_bytes;
 use crate::replies::Reply;
-use archive::plain::of_lookup;
-use archive::plain::of_summary;
+use lookup::plain::of_lookup;
+use summary::plain::of_summary;
 
 // The reply to a call on a line or a value: its number, and the archive's bytes.
 pub fn reply(letter: u8, n: &[u64]) -> Reply {
@@ -25,7 +25,7 @@ fn on_archive(letter: u8, archive: &[u8], number: u64) -> Reply {
 }
 
 fn lookup(archive: &[u8], number: u64) -> Reply {
-    let r = of_lookup(archive::lookup(archive, number));
+    let r = of_lookup(lookup::lookup(archive, number));
     Reply::Four(r.refusal, r.line, r.found, r.position)
 }
 
@@ -40,6 +40,6 @@ pub fn summary(n: &[u64]) -> Reply {
     let Bytes::Count(count) = read_bytes(n, &mut buffer) else {
         return Reply::Unreadable;
     };
-    let r = of_summary(archive::summary(&buffer[0..count]));
+    let r = of_summary(summary::summary(&buffer[0..count]));
     Reply::Four(r.refusal, r.line, r.line_count, r.total)
 }

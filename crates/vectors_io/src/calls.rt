@@ -7,15 +7,15 @@ use crate::archives;
 use crate::numbers::Bytes;
 use crate::numbers::read_bytes;
 use crate::replies::Reply;
+use gaps::plain::of_gap;
 use generator::Generator;
-use lines::Run;
 use lines::plain::of_run;
-use orbits::plain::of_gap;
+use low_places::plain::of_places;
 use orbits::plain::of_index;
 use orbits::plain::of_orbit;
-use orbits::plain::of_places;
 use refusals::ValueAnswer;
 use refusals::of_value;
+use runs::Run;
 
 // The reply to a call. A call with too few or too many numbers is none.
 pub fn reply(letter: u8, n: &[u64]) -> Reply {
@@ -57,7 +57,7 @@ fn gap(n: &[u64]) -> Reply {
     if n.len() != 6 {
         return Reply::Unreadable;
     }
-    let r = of_gap(orbits::gap(generator_of(n), n[4], n[5]));
+    let r = of_gap(gaps::gap(generator_of(n), n[4], n[5]));
     let steps = r.steps;
     if steps < 0 {
         return Reply::Four(r.refusal, r.found, 1, size(steps));
@@ -87,7 +87,7 @@ fn index_places(n: &[u64]) -> Reply {
     if n.len() != 6 {
         return Reply::Unreadable;
     }
-    let r = of_places(orbits::index_places(generator_of(n), n[4], n[5]));
+    let r = of_places(low_places::index_places(generator_of(n), n[4], n[5]));
     Reply::Five(r.refusal, r.found, r.index, r.recurs, r.exponent)
 }
 
@@ -135,7 +135,7 @@ fn remake(n: &[u64]) -> Reply {
     if 5 < lent {
         return Reply::Unreadable;
     }
-    let r = of_value(lines::remake(run_of(n), n[6], &mut values[0..lent]));
+    let r = of_value(remake::remake(run_of(n), n[6], &mut values[0..lent]));
     Reply::Seven(
         r.refusal,
         r.value,
@@ -151,7 +151,7 @@ fn variety(n: &[u64]) -> Reply {
     if n.len() != 6 {
         return Reply::Unreadable;
     }
-    of_one(lines::variety(run_of(n)))
+    of_one(variety::variety(run_of(n)))
 }
 
 // The last number is the buffer's length.

@@ -3,3 +3,4 @@ pub mod Congruence
 pub mod Places
 mod Halves
 mod Iteration
+pub mod PowersOfTwo

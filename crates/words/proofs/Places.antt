@@ -3,18 +3,18 @@
 -- And a mask of n ones keeps the low n bits.
 use mathlib.Core.Path.{_≡_, refl, sym, ap, _∙_}
 use mathlib.Core.Bool.{not}
+use mathlib.Core.Logic.{by-cases}
 use Prim.Native.Nat.{ℕ, zero, suc, _+_, _-_, _*_, _/_, _%_, _^_, _≤_, _<_}
-use native.Mathlib.Nat.{mod-one, mod-lt, mod-eq-of-lt, zero-mod, pow-suc, le-trans, lt-of-not-le}
+use native.Mathlib.Nat.{mod-self, le-antisymm, mod-one, mod-lt, mod-eq-of-lt, zero-mod, pow-suc, le-trans, lt-of-not-le}
 use native.Mathlib.Decide.{decLe, ℕ-discrete}
 use native.Mathlib.Omega.{arith}
 use lib.Arith.{mod-mul}
 use lib.Bits.{bitAnd, and-mask}
 use lib.Count.{trailingZeros, under, trailing-le, trailing-of-zero}
 use lib.Dec.{eqb, leb, lit<}
-use lib.Pow.{pow-pos, pow-mono, ones-split, ones-lt, high}
+use lib.Pow.{pow-pos, pow-lt, ones-split, ones-lt, high}
 use borrow.Author.Tests.{eq-eqb, ne-eqb, le-leb, lt-leb}
 use Rattle.words.specs.Alpha.{Alpha, FirstDifference}
-use Rattle.words.specs.Masks.{Meets, Widens}
 use Rattle.words.proofs.Congruence.{Congruent, same-refl, same-regroup, same-sym, same-trans, same-result, same-add, same-add-cancel, same-lower}
 
 -- n modulo a power of two, by its lowest bit and the rest
@@ -78,6 +78,34 @@ module _ {z r : ℕ} (α : Alpha z r) where
       past g (yes q) = omega (arith, α .at-zero q)
       past g (no f) = α .exact f (same-lower (suc r) g (multiple-of m e) .same ∙ zero-mod (2 ^ suc r))
 
+-- α of a power of two is its exponent, up to 2 ^ 64, which the machine has as 0
+pub alpha-power : {z r : ℕ} (e : ℕ) → e ≤ 64 → z ≡ 2 ^ e % 2 ^ 64 → Alpha z r → r ≡ e
+alpha-power {z} {r} e l q α = by-cases (ℕ-discrete e 64) whole part
+  where
+    whole : e ≡ 64 → r ≡ e
+    whole h = α .at-zero (q ∙ ap (λ (n : ℕ). 2 ^ n % 2 ^ 64) h) ∙ sym h
+
+    part : (e ≡ 64 → ⊥) → r ≡ e
+    part d = le-antisymm above (alpha-above α e l (ap (λ (n : ℕ). n % 2 ^ e) same ∙ mod-self (2 ^ e)))
+      where
+        same : z ≡ 2 ^ e
+        same = q ∙ mod-eq-of-lt (pow-lt (let h : e < 64 = omega arith in h))
+
+        above : r ≤ e
+        above =
+            elim (decLe r e) [
+              | yes h ↦ h
+              | no f ↦
+                  absurd
+                  (omega (
+                    arith,
+                    pow-pos e,
+                    alpha-below α (suc e) (lt-of-not-le f),
+                    ap (λ (n : ℕ). n % 2 ^ suc e) same,
+                    mod-eq-of-lt {n = 2 ^ e} {m = 2 ^ suc e} (pow-lt (let h : e < suc e = omega arith in h)),
+                  ))
+            ]
+
 -- d above v modulo 2 ^ n is u: they agree in the low m places exactly where d has no bit there
 module _ {n u v : ℕ} (d : ℕ) (h : Congruent (2 ^ n) (v + d) u) {m : ℕ} (l : m ≤ n) where
   pub above-agree : d % 2 ^ m ≡ 0 → Congruent (2 ^ m) u v
@@ -126,24 +154,3 @@ exceeds-test n x =
       | no f ↦
           ap not (eq-eqb (x % 2 ^ n) x (mod-eq-of-lt (lt-of-not-le f))) ∙ sym (lt-leb (2 ^ n) x (lt-of-not-le f))
     ]
-
--- a mask of m ones
-pub mask-meets : (z mask : ℕ) → Meets z mask (not (eqb (bitAnd z mask) 0))
-mask-meets z mask =
-    record {
-      tells =
-          λ m q.
-          ap (λ (u : ℕ). not (eqb u 0))
-          (ap (bitAnd z) (let h : mask ≡ 2 ^ m - 1 = omega (arith, q) in h) ∙ and-mask z m);
-    }
-
-pub mask-widens : {mask r : ℕ} (t : ℕ) → t ≡ (mask + mask) % 2 ^ 64 → r ≡ (t + 1) % 2 ^ 64 → Widens mask r
-mask-widens {mask} {r} t et er =
-    record {
-      widens =
-          λ m l q.
-          let p : 2 ^ suc m ≡ 2 ^ m + 2 ^ m = omega arith in
-          let b : 2 ^ suc m ≤ 2 ^ 64 = pow-mono l in
-          let u : t ≡ mask + mask = et ∙ mod-eq-of-lt (omega arith) in
-          let w : r ≡ t + 1 = er ∙ mod-eq-of-lt (omega arith) in omega arith;
-    }

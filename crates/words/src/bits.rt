@@ -2,8 +2,6 @@
 ghost use mathlib.Core.Path.{_≡_};
 ghost use Prim.Native.Nat.{_+_, _%_, _^_, _≤_};
 ghost use lib.Dec.{leb};
-ghost use Rattle.words.specs.Masks.{Meets, Widens};
-use std::num::wrapping_add_u64;
 
 // x modulo 2^n, for every n from 1 to 64.
 pub fn low_bits(x: u64, n: u64) -> u64
@@ -30,18 +28,4 @@ pub fn exceeds(x: u64, n: u64) -> bool
     ensures { λ r. ⌜ r ≡ leb (2 ^ n) x ⌝ }
 {
     low_bits(x, n) != x
-}
-
-// Whether z has a one bit in the low m places, for the mask of m ones.
-pub fn meets(z: u64, mask: u64) -> bool
-    ensures { λ r. ⌜ Meets z mask r ⌝ }
-{
-    z & mask != 0
-}
-
-// The mask of one place more.
-pub fn widened(mask: u64) -> u64
-    ensures { λ r. ⌜ Widens mask r ⌝ }
-{
-    wrapping_add_u64(wrapping_add_u64(mask, mask), 1)
 }

@@ -8,10 +8,10 @@ use Prim.Native.Nat.{ℕ, zero, suc, _+_}
 use native.Mathlib.Nat.{add-zero, zero-add, add-suc, suc-add}
 use lib.Dec.{T, eqb, ltb, eqb→eq}
 use Rattle.sequences.specs.Least.{least}
-use Rattle.sequences.specs.Orbit.{returnOf, preperiodOf, periodOf, exponentOf}
+use Rattle.sequences.specs.Orbit.{returnLessOne, preperiodOf, periodOf, exponentOf}
 use Rattle.sequences.specs.Index.{indexOf}
 use Rattle.sequences.proofs.Least.{least-same}
-use Rattle.sequences.proofs.Indices.{bound-none}
+use Rattle.sequences.proofs.IndexOf.{bound-none}
 use Rattle.generator.specs.declared.Generator.{Generator}
 use Rattle.generator.specs.Recurrence.{modulus, step, element}
 use Rattle.generator.specs.Check.{refusalOf}
@@ -31,7 +31,7 @@ use Rattle.worked_runs.specs.WorkedRuns.{
   workedRuns,
   WorkedRuns,
 }
-use Rattle.orbits.proofs.Orbits.{has-cycle, cycle-never}
+use Rattle.orbits.proofs.Orbits.{below-never}
 
 -- a search along the elements from x on
 unfoldable walk : Generator → (ℕ → Bool) → ℕ → ℕ → ℕ
@@ -70,8 +70,8 @@ module _ (g : Generator) where
   abbrev fast-return : ℕ → ℕ
   fast-return t = walk g (λ v. eqb v (element g t)) (modulus g) (element g (t + 1))
 
-  return-is : (t : ℕ) → returnOf (element g) (modulus g) t ≡ fast-return t
-  unfolding returnOf
+  return-is : (t : ℕ) → returnLessOne (element g) (modulus g) t ≡ fast-return t
+  unfolding returnLessOne
   return-is t = sym (walk-is g (λ v. eqb v (element g t)) (modulus g) (t + 1))
 
   abbrev fast-preperiod : ℕ
@@ -112,7 +112,7 @@ module _ (g : Generator) (z : refusalOf g ≡ 0) where
   fact-holds (Index y k) t = index-is g y ∙ eqb→eq (fast-index g y) k t
   fact-holds (Never y) t =
       let e = index-is g y ∙ eqb→eq (fast-index g y) (modulus g) t in
-      (e, cycle-never (has-cycle g z .1) (bound-none (element g) y (modulus g) e))
+      (e, below-never g z (bound-none (element g) y (modulus g) e))
 
   facts-hold : (fs : List Fact) → T (facts-test g fs) → Facts g fs
   facts-hold [] t = tt

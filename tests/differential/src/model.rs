@@ -15,6 +15,20 @@ fn is_odd(number: u64) -> bool {
     number % 2 == 1
 }
 
+#[derive(PartialEq)]
+enum Kind {
+    Linear,
+    Prime,
+}
+
+fn kind(g: Generator) -> Kind {
+    if g.width == 0 {
+        Kind::Prime
+    } else {
+        Kind::Linear
+    }
+}
+
 /// How the sequence of an accepted generator is found.
 enum Method {
     Prime,
@@ -23,7 +37,7 @@ enum Method {
 }
 
 fn method(g: Generator) -> Method {
-    if g.width == 0 {
+    if kind(g) == Kind::Prime {
         Method::Prime
     } else if g.width <= STEPPED_WIDTH || !is_odd(g.multiplier) {
         Method::Stepping
@@ -131,18 +145,16 @@ fn fits(number: u64, width: u64) -> bool {
 
 /// Whether the number is one of those that a generator of this width may yield.
 fn is_of_width(g: Generator, number: u64) -> bool {
-    if g.width == 0 {
-        prime::yields(number)
-    } else {
-        fits(number, g.width)
+    match kind(g) {
+        Kind::Prime => prime::yields(number),
+        Kind::Linear => fits(number, g.width),
     }
 }
 
 fn operands_fit(g: Generator) -> bool {
-    if g.width == 0 {
-        prime::accepts(g)
-    } else {
-        [g.multiplier, g.increment, g.seed].iter().all(|&operand| fits(operand, g.width))
+    match kind(g) {
+        Kind::Prime => prime::accepts(g),
+        Kind::Linear => [g.multiplier, g.increment, g.seed].iter().all(|&operand| fits(operand, g.width)),
     }
 }
 
@@ -238,7 +250,7 @@ pub fn predecessor(g: Generator, number: u64) -> Value {
     let refusal = match generator_refusal(g) {
         0 if !is_of_width(g, number) => VALUE_OUT_OF_RANGE,
         0 if !is_odd(g.multiplier) => NOT_INVERTIBLE,
-        0 if g.width == 0 => return Value { refusal: 0, value: prime::predecessor(number) },
+        0 if kind(g) == Kind::Prime => return Value { refusal: 0, value: prime::predecessor(number) },
         refusal => refusal,
     };
     if refusal != 0 {

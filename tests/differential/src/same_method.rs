@@ -67,18 +67,38 @@ fn mask(width: u64) -> u64 {
     u64::MAX >> (64 - width)
 }
 
-fn generator_refusal(g: Generator) -> u64 {
+#[derive(Clone, Copy, PartialEq)]
+enum Kind {
+    Linear,
+    Prime,
+}
+
+fn kind(g: Generator) -> Kind {
     if g.width == 0 {
-        return if prime::accepts(g) { 0 } else { OPERAND_OUT_OF_RANGE };
+        Kind::Prime
+    } else {
+        Kind::Linear
     }
+}
+
+fn operands_fit(g: Generator) -> bool {
+    match kind(g) {
+        Kind::Prime => prime::accepts(g),
+        Kind::Linear => {
+            let top = mask(g.width);
+            g.multiplier <= top && g.increment <= top && g.seed <= top
+        }
+    }
+}
+
+fn generator_refusal(g: Generator) -> u64 {
     if g.width > 64 {
-        return WIDTH_OUT_OF_RANGE;
+        WIDTH_OUT_OF_RANGE
+    } else if !operands_fit(g) {
+        OPERAND_OUT_OF_RANGE
+    } else {
+        0
     }
-    let top = mask(g.width);
-    if g.multiplier > top || g.increment > top || g.seed > top {
-        return OPERAND_OUT_OF_RANGE;
-    }
-    0
 }
 
 fn run_refusal(run: Run) -> u64 {
@@ -90,33 +110,32 @@ fn run_refusal(run: Run) -> u64 {
 }
 
 fn element_of(g: Generator, index: u64) -> u64 {
-    if g.width == 0 {
-        return prime::element(g.seed, index);
+    match kind(g) {
+        Kind::Prime => prime::element(g.seed, index),
+        Kind::Linear => steps(Map::step(g), index).apply(g.seed) & mask(g.width),
     }
-    steps(Map::step(g), index).apply(g.seed) & mask(g.width)
 }
 
 /// For an odd multiplier the index and the period, 0 for 2^64. Up to each place `index` is the least
-/// index that agrees with the number, `away` what its element is above the number, `gap` what the
-/// element one period of the places so far on is above that, and `factor` what such a period
-/// multiplies differences by.
+/// index that agrees with the number and `away` what its element is above the number; one period of
+/// the places so far multiplies what an element is above the number by `factor` and adds `drift`.
 fn index_up_the_places(g: Generator, number: u64) -> Option<(u64, u64)> {
-    let (mut index, mut period, mut factor, mut places) = (0, 1u64, g.multiplier, 1u64);
+    let (mut index, mut period, mut factor) = (0u64, 1u64, g.multiplier);
     let mut away = g.seed.wrapping_sub(number);
-    let mut gap = Map::step(g).apply(g.seed).wrapping_sub(g.seed);
+    let mut drift = Map::step(g).apply(number).wrapping_sub(number);
+    let mut first = away.trailing_zeros() as u64;
     for place in 0..g.width {
-        let differs = away & places != 0;
-        places = places << 1 | 1;
-        if gap.trailing_zeros() as u64 == place {
+        let differs = first == place;
+        if drift.trailing_zeros() as u64 == place {
+            let moved = factor.wrapping_mul(away).wrapping_add(drift);
             let square = factor.wrapping_mul(factor);
-            let mut growth = factor.wrapping_add(1);
-            if differs {
-                index += period;
-                away = away.wrapping_add(gap);
-                growth = square.wrapping_add(factor);
-            }
-            gap = growth.wrapping_mul(gap);
+            drift = factor.wrapping_add(1).wrapping_mul(drift);
             factor = square;
+            if differs {
+                index = index.wrapping_add(period);
+                away = moved;
+                first = moved.trailing_zeros() as u64;
+            }
             period = period.wrapping_add(period);
         } else if differs {
             return None;
@@ -138,7 +157,7 @@ fn index_by_steps(g: Generator, number: u64) -> Option<u64> {
 }
 
 fn index_of(g: Generator, number: u64) -> Option<u64> {
-    if g.width == 0 {
+    if kind(g) == Kind::Prime {
         prime::index(g.seed, number)
     } else if number > mask(g.width) {
         None
@@ -181,7 +200,7 @@ fn prime_gap_of(g: Generator, from: u64, to: u64) -> Option<i64> {
 
 /// For an odd multiplier, from the indices of both numbers.
 fn gap_of(g: Generator, from: u64, to: u64) -> Option<i64> {
-    if g.width == 0 {
+    if kind(g) == Kind::Prime {
         return prime_gap_of(g, from, to);
     }
     if from > mask(g.width) || to > mask(g.width) {
@@ -197,7 +216,7 @@ fn gap_of(g: Generator, from: u64, to: u64) -> Option<i64> {
 /// The preperiod and the period less 1. With an even multiplier neighbours first differ a number of
 /// places higher at each step, until all places agree.
 fn cycle_of(g: Generator) -> (u64, u64) {
-    if g.width == 0 {
+    if kind(g) == Kind::Prime {
         return (0, PERIOD - 1);
     }
     if g.multiplier % 2 == 1 {
@@ -234,11 +253,10 @@ pub fn orbit(g: Generator) -> OrbitReply {
     if refusal != 0 {
         return OrbitReply { refusal, ..OrbitReply::default() };
     }
-    match (cycle_of(g), g.width) {
-        ((preperiod, last), 0) => OrbitReply { preperiod, period: last + 1, ..OrbitReply::default() },
-        ((preperiod, last), _) => {
-            OrbitReply { preperiod, exponent: last.count_ones().into(), ..OrbitReply::default() }
-        }
+    let (preperiod, last) = cycle_of(g);
+    match kind(g) {
+        Kind::Prime => OrbitReply { preperiod, period: last + 1, ..OrbitReply::default() },
+        Kind::Linear => OrbitReply { preperiod, exponent: last.count_ones().into(), ..OrbitReply::default() },
     }
 }
 
@@ -249,10 +267,10 @@ fn inverse(odd: u64) -> u64 {
 }
 
 fn predecessor_of(g: Generator, number: u64) -> u64 {
-    if g.width == 0 {
-        return prime::previous(number);
+    match kind(g) {
+        Kind::Prime => prime::previous(number),
+        Kind::Linear => inverse(g.multiplier).wrapping_mul(number.wrapping_sub(g.increment)) & mask(g.width),
     }
-    inverse(g.multiplier).wrapping_mul(number.wrapping_sub(g.increment)) & mask(g.width)
 }
 
 #[inline(never)]
@@ -261,7 +279,10 @@ pub fn predecessor(g: Generator, number: u64) -> Value {
     if refusal != 0 {
         return Value { refusal, value: 0 };
     }
-    let fits = if g.width == 0 { prime::yields(number) } else { number <= mask(g.width) };
+    let fits = match kind(g) {
+        Kind::Prime => prime::yields(number),
+        Kind::Linear => number <= mask(g.width),
+    };
     if !fits {
         return Value { refusal: VALUE_OUT_OF_RANGE, value: 0 };
     }
@@ -320,11 +341,12 @@ pub fn remake(run: Run, position: u64, values: &mut [u64]) -> Value {
     let count = left.min(values.len() as u64);
     let (g, values) = (run.generator, &mut values[..count as usize]);
     let x = element_of(g, run.first + position);
-    if g.width == 0 {
-        fill(values, x, prime::next);
-    } else {
-        let (one, top) = (Map::step(g), mask(g.width));
-        fill(values, x, |x| one.apply(x) & top);
+    match kind(g) {
+        Kind::Prime => fill(values, x, prime::next),
+        Kind::Linear => {
+            let (one, top) = (Map::step(g), mask(g.width));
+            fill(values, x, |x| one.apply(x) & top);
+        }
     }
     Value { refusal: 0, value: count }
 }

@@ -1,6 +1,6 @@
--- `archive::line` meets its contract: the part by its place is the part itself.
+-- `archive::line` meets its contract: the part, by its start and its length, is the line itself.
 use borrow.Author.Needs.{needs}
-use Rattle.archive.proofs.Placing.{line-of-part}
+use Rattle.archive.proofs.PartOfLine.{line-of-part}
 use Rattle.archive.proofs.line.Statement.{statement}
 use Rattle.archive.proofs.line.Tie as tie
 

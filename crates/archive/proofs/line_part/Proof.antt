@@ -1,10 +1,8 @@
--- `archive::line_part` meets its contract.
+-- `archive::line_part` meets its contract: past the check the part is that of the line.
 use borrow.Author.Needs.{needs}
-use mathlib.Core.Path.{sym, ap}
-use Rattle.archive.specs.Check.{CheckReply}
-use Rattle.archive.specs.declared.ArchiveCheck.the-variants.{Accepted, Refused}
-use Rattle.archive.proofs.Checking.{check-as}
-use Rattle.archive.proofs.Placing.{part-found, part-refused}
+use Rattle.archive.specs.declared.ArchiveCheck.the-variants.{Refused}
+use Rattle.archive.proofs.Checking.{check-as, check-accepted}
+use Rattle.archive.proofs.PartOfLine.{part-refused}
 use Rattle.archive.proofs.line_part.Statement.{statement}
 use Rattle.archive.proofs.line_part.Tie as tie
 
@@ -22,16 +20,14 @@ returns c =
 enum-told-2 : tie.Need-enum-told-2
 enum-told-2 c = search needs
 
-line-place-requires : tie.Need-line-place-requires
-line-place-requires c κs = search needs
+part-of-line-requires : tie.Need-part-of-line-requires
+part-of-line-requires c κs =
+    check-accepted (c .enum-told2 .given .1) (c .before .before .checked .ensures)
 
 returns-2 : tie.Need-returns-2
-returns-2 c =
-    let past = c .before in
-    part-found (ap (λ (r : CheckReply). r .refusal) (sym (check-as Accepted (past .enum-told2 .given .1) (past .before .before .checked .ensures))))
-    (c .line-place .ensures)
+returns-2 c = search needs
 
 pub line-part-spec : {M : Type 1} → statement M
 line-part-spec =
     tie.close
-    (tie.spec checked-requires enum-told returns enum-told-2 line-place-requires returns-2)
+    (tie.spec checked-requires enum-told returns enum-told-2 part-of-line-requires returns-2)

@@ -1,7 +1,7 @@
 -- `lines::write_line` meets its contract.
 use mathlib.Core.Path.{_≡_}
 use Rattle.refusals.proofs.Replies.{number-accepted, number-refused, refused-else}
-use Rattle.lines.specs.Run.{runRefusal}
+use Rattle.runs.specs.Run.{runRefusal}
 use Rattle.lines.specs.WriteLine.{writeRefusal}
 use Rattle.lines.proofs.Written.{write-refused, write-short, write-done}
 use borrow.Author.Needs.{needs}

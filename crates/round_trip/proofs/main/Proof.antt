@@ -5,10 +5,10 @@ use borrow.Author.Tests.{eq-eqb}
 use Rattle.generator.specs.Recurrence.{modulus}
 use Rattle.generator.specs.Check.{refusalOf}
 use Rattle.refusals.proofs.Replies.{number-nonzero}
-use Rattle.lines.specs.declared.Run.{Run}
-use Rattle.lines.specs.Run.{runRefusal}
+use Rattle.runs.specs.declared.Run.{Run}
+use Rattle.runs.specs.Run.{runRefusal}
 use Rattle.lines.specs.declared.RunReply.{RunReply}
-use Rattle.lines.specs.ReadLine.{acceptedRun, replyOf}
+use Rattle.lines.specs.ReadLine.{acceptedRun, plainRun}
 use Rattle.round_trip.proofs.main.Statement.{statement}
 use Rattle.round_trip.proofs.main.Tie as tie
 
@@ -36,7 +36,7 @@ expect-requires c κs =
     let refused = c .enum-told .given in
     absurd
     (number-nonzero (refused .0 .0)
-    (ap (λ (r : RunReply). r .refusal) (sym (ap replyOf (refused .1)) ∙ c .before .before .round-trip .ensures)))
+    (ap (λ (r : RunReply). r .refusal) (sym (ap plainRun (refused .1)) ∙ c .before .before .round-trip .ensures)))
 
 returns : tie.Need-returns
 returns c = search needs
@@ -44,7 +44,7 @@ returns c = search needs
 -- the run that came back
 back : (c : tie.After-known-told) → acceptedRun (c .before .back .given .0 .0) ≡ acceptedRun written
 unfolding runRefusal refusalOf modulus
-back c = sym (ap replyOf (c .before .back .given .1)) ∙ c .before .before .before .round-trip .ensures
+back c = sym (ap plainRun (c .before .back .given .1)) ∙ c .before .before .before .round-trip .ensures
 
 expect-requires-2 : tie.Need-expect-requires-2
 expect-requires-2 c κs = eq-eqb _ 371 (ap (λ (r : RunReply). r .run .generator .multiplier) (back (c .before)))

@@ -1,5 +1,6 @@
 -- `runsum::main` is safe and ends: the buffer is as large as what is decided asks where more may follow.
-use Rattle.archive_io.proofs.Filling.{enough}
+use native.Mathlib.Omega.{arith}
+use Rattle.archive_io.proofs.Filling.{filled-enough}
 use borrow.Author.Needs.{needs}
 use Rattle.runsum.proofs.main.Statement.{statement}
 use Rattle.runsum.proofs.main.Tie as tie
@@ -19,7 +20,7 @@ slice-aggregate-print-output c = search needs
 print-output-requires : tie.Need-print-output-requires
 print-output-requires c κs =
     let a = c .before .before .read-archive in
-    enough (a .ensures) (a .kept .0)
+    filled-enough (a .ensures) (omega (arith, a .kept .0))
 
 returns : tie.Need-returns
 returns c = search needs

@@ -7,10 +7,10 @@ use native.Mathlib.Omega.{arith}
 use denote.Ref.{now}
 use lib.ListN.{length, take, drop}
 use Rattle.lines.specs.ReadLine.{ReadPromise, acceptedRun}
-use Rattle.lines.specs.declared.RunAnswer.the-variants.{Refused}
+use Rattle.lines.specs.declared.RunAnswer.the-variants.{Accepted, Refused}
 use Rattle.lines.proofs.Reading.{read-as}
 use Rattle.archive.proofs.Splitting.{part-within, part-advances}
-use Rattle.archive.proofs.LineByLine.{Passed, passed-start, read-reply, passed-refused, passed-twin, passed-next, passed-end}
+use Rattle.archive.proofs.LineByLine.{Passed, passed-start, passed-refused, passed-twin, passed-next, passed-end}
 use Rattle.archive.proofs.checks.lines_checked.Statement.{statement}
 use Rattle.archive.proofs.checks.lines_checked.Tie as tie
 
@@ -45,8 +45,8 @@ part-read-line-end c = part c .1
 read-line-requires : tie.Need-read-line-requires Inv-loop μ-loop
 read-line-requires c κs = search needs
 
-enum-known-answer : tie.Need-enum-known-answer Inv-loop μ-loop
-enum-known-answer c = search needs
+enum-known-refusal : tie.Need-enum-known-refusal Inv-loop μ-loop
+enum-known-refusal c = search needs
 
 same-length : tie.Need-same-length Inv-loop μ-loop
 same-length c = c .before .before .before .before .before .before .before .loop .inv .1
@@ -56,46 +56,42 @@ same-length-2 c = c .before .before .before .before .before .before .before .loo
 
 returns : tie.Need-returns Inv-loop μ-loop
 returns c =
-    let answer = c .before .answer .given in
+    let refusal = c .before .refusal .given in
     let read = c .before .before .before in
     let l = read .before .before .before in
-    passed-refused (l .before .loop .inv .0) (l .loop-test .taken) (read .before .before .part-end .ensures) (answer .0 .0)
-    (read-as (Refused _) (answer .1) (read .read-line .ensures))
+    passed-refused (l .before .loop .inv .0) (l .loop-test .taken) (read .before .before .part-end .ensures) (refusal .0 .0)
+    (read-as (Refused _) (refusal .1) (read .read-line .ensures))
     (l .before .before .before .before .before .pre .0)
 
-enum-told : tie.Need-enum-told Inv-loop μ-loop
-enum-told c = search needs
-
-of-run-requires : tie.Need-of-run-requires Inv-loop μ-loop
-of-run-requires c κs = search needs
+enum-known-run : tie.Need-enum-known-run Inv-loop μ-loop
+enum-known-run c = search needs
 
 -- the line that was read
 promise : (c : tie.After-run Inv-loop μ-loop) →
     ReadPromise
-    (take (c .before .before .before .before .before .before .part-end .result - c .before .before .before .before .before .before .before .before .loop .at)
-    (drop (c .before .before .before .before .before .before .before .before .loop .at)
-    (now (c .before .before .before .before .before .before .before .before .before .before .before .before .args .archive))))
-    (acceptedRun (c .before .of-run .result .run))
-promise c = read-reply (c .before .before .enum-told .given .1) (c .before .of-run .ensures) (c .before .before .before .before .read-line .ensures)
+    (take (c .before .before .before .before .part-end .result - c .before .before .before .before .before .before .loop .at)
+    (drop (c .before .before .before .before .before .before .loop .at)
+    (now (c .before .before .before .before .before .before .before .before .before .before .args .archive))))
+    (acceptedRun (c .run .given .0 .0))
+promise c = read-as (Accepted _) (c .run .given .1) (c .before .before .read-line .ensures)
 
 line-seen-requires : tie.Need-line-seen-requires Inv-loop μ-loop
 line-seen-requires c κs =
-    let run = c .before .before in
-    let read = run .before .before .before .before .before .before in
-    let l = read .before in
-    let inv = l .before .loop .inv in (
+    let run = c .before .before .before in
+    let read = run .before .before .before .before in
+    let l = read .before in (
       l .before .before .before .before .before .pre .0,
-      (part read .0, (part read .1, (promise run .accepted refl .line, inv .0 .chained .tables))),
+      (part read .0, (part read .1, (promise run .accepted refl .line, l .before .loop .inv .0 .chained .tables))),
     )
 
 -- the tables are as long as they were
 kept : (c : tie.After-line-seen Inv-loop μ-loop) →
     (length (c .line-seen .last .1 .1 .1 .1 .0)
-    ≡ length (now (c .before .before .before .before .before .before .before .before .before .before .before .before .before .before .before .args .head)))
+    ≡ length (now (c .before .before .before .before .before .before .before .before .before .before .before .before .before .before .args .head)))
     × (length (c .line-seen .last .1 .1 .1 .1 .1 .0)
-    ≡ length (now (c .before .before .before .before .before .before .before .before .before .before .before .before .before .before .before .args .next)))
+    ≡ length (now (c .before .before .before .before .before .before .before .before .before .before .before .before .before .before .args .next)))
 kept c =
-    let inv = c .before .before .before .before .before .before .before .before .before .before .before .loop .inv in
+    let inv = c .before .before .before .before .before .before .before .before .before .before .loop .inv in
     (c .line-seen .kept .1 .1 .1 .1 .0 ∙ inv .1, c .line-seen .kept .1 .1 .1 .1 .1 .0 ∙ inv .2)
 
 same-length-3 : tie.Need-same-length-3 Inv-loop μ-loop
@@ -107,30 +103,29 @@ same-length-4 c = kept (c .before .before .before .before .before) .1
 returns-2 : tie.Need-returns-2 Inv-loop μ-loop
 returns-2 c =
     let seen = c .before .before .before .before .before in
-    let run = seen .before .before .before in
-    let l = run .before .before .before .before .before .before .before in
-    passed-twin (l .before .loop .inv .0) (l .loop-test .taken) (run .before .before .before .before .before .before .part-end .ensures) (promise run)
-    (seen .line-seen .ensures)
-    (c .if1 .taken)
-    (l .before .before .before .before .before .pre .0)
+    let run = seen .before .before .before .before in
+    let p = run .before .before .before .before in
+    let l = p .before in
+    passed-twin (l .before .loop .inv .0) (l .loop-test .taken) (p .part-end .ensures) (promise run) (seen .line-seen .ensures)
+    (c .if1 .taken) (l .before .before .before .before .before .pre .0)
 
 add-number : tie.Need-add-number Inv-loop μ-loop
 add-number c =
-    let l = c .before .before .before .before .before .before .before .before .before .before .before .before .before .before .before in
+    let l = c .before .before .before .before .before .before .before .before .before .before .before .before .before .before in
     omega (arith, l .before .loop .inv .0 .walk .few, l .loop-test .taken, l .before .before .before .before .before .pre .0)
 
 loop-less : tie.Need-loop-less Inv-loop μ-loop
 loop-less c =
-    let p = c .before .before .before .before .before .before .before .before .before .before .before .before .before .before in
+    let p = c .before .before .before .before .before .before .before .before .before .before .before .before .before in
     omega (arith, part-advances _ (p .before .loop-test .taken) (p .part-end .ensures), part p)
 
 loop-again : tie.Need-loop-again Inv-loop μ-loop
 loop-again c =
     let seen = c .before .before .before .before .before in
-    let run = seen .before .before .before in
-    let l = run .before .before .before .before .before .before .before in (
-      passed-next (l .before .loop .inv .0) (l .loop-test .taken) (run .before .before .before .before .before .before .part-end .ensures) (promise run)
-          (seen .line-seen .ensures)
+    let run = seen .before .before .before .before in
+    let p = run .before .before .before .before in
+    let l = p .before in (
+      passed-next (l .before .loop .inv .0) (l .loop-test .taken) (p .part-end .ensures) (promise run) (seen .line-seen .ensures)
           (c .if1 .left),
       kept seen .0,
       kept seen .1,
@@ -157,12 +152,11 @@ lines-checked-spec =
     part-read-line-start
     part-read-line-end
     read-line-requires
-    enum-known-answer
+    enum-known-refusal
     same-length
     same-length-2
     returns
-    enum-told
-    of-run-requires
+    enum-known-run
     line-seen-requires
     same-length-3
     same-length-4

@@ -1,6 +1,6 @@
--- `archive::parts::next_run` meets its contract: the part read is the line, and its plain reply has the run.
+-- `archive::parts::next_run` meets its contract: the part read is the line, which is accepted.
 use Rattle.archive.proofs.Splitting.{part-within}
-use Rattle.archive.proofs.Runs.{run-read}
+use Rattle.archive.proofs.Runs.{run-reads, run-read}
 use borrow.Author.Needs.{needs}
 use Rattle.archive.proofs.parts.next_run.Statement.{statement}
 use Rattle.archive.proofs.parts.next_run.Tie as tie
@@ -8,36 +8,34 @@ use Rattle.archive.proofs.parts.next_run.Tie as tie
 part-end-requires : tie.Need-part-end-requires
 part-end-requires c κs = search needs
 
-sub-read-line : tie.Need-sub-read-line
-sub-read-line c = search needs
+sub-accepted-run : tie.Need-sub-accepted-run
+sub-accepted-run c = search needs
 
-part-read-line-start : tie.Need-part-read-line-start
-part-read-line-start c = search needs
+part-accepted-run-start : tie.Need-part-accepted-run-start
+part-accepted-run-start c = search needs
 
-part-read-line-end : tie.Need-part-read-line-end
-part-read-line-end c = part-within _ (c .before .before .pre .0) (c .part-end .ensures) .1
+part-accepted-run-end : tie.Need-part-accepted-run-end
+part-accepted-run-end c = part-within _ (c .before .before .pre .0) (c .part-end .ensures) .1
 
-read-line-requires : tie.Need-read-line-requires
-read-line-requires c κs = search needs
-
-of-run-requires : tie.Need-of-run-requires
-of-run-requires c κs = search needs
+accepted-run-requires : tie.Need-accepted-run-requires
+accepted-run-requires c κs =
+    let p = c .before in
+    let start = p .before .before in
+    run-reads _ (start .pre .0) (start .pre .1) (p .part-end .ensures)
 
 returns : tie.Need-returns
 returns c =
-    let read = c .before .before in
-    let p = read .before .before in
+    let p = c .before .before in
     let start = p .before .before in
-    run-read (read .read-line .result) (start .pre .0) (start .pre .1) (p .part-end .ensures) (read .read-line .ensures) (c .before .of-run .ensures)
+    run-read _ (start .pre .0) (start .pre .1) (p .part-end .ensures) (c .accepted-run .ensures)
 
 pub next-run-spec : {M : Type 1} → statement M
 next-run-spec =
     tie.close
     (tie.spec
     part-end-requires
-    sub-read-line
-    part-read-line-start
-    part-read-line-end
-    read-line-requires
-    of-run-requires
+    sub-accepted-run
+    part-accepted-run-start
+    part-accepted-run-end
+    accepted-run-requires
     returns)

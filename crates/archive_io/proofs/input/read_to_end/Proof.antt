@@ -4,7 +4,7 @@ use native.Mathlib.Omega.{arith}
 use mathlib.Core.Path.{_≡_}
 use Prim.Native.Nat.{_≤_, _-_}
 use lib.ListN.{length}
-use Rattle.archive_io.proofs.Filling.{ended, failed, full}
+use Rattle.archive_io.proofs.Filling.{filled-ended, filled-failed, filled-full}
 use borrow.Author.Needs.{needs}
 use Rattle.archive_io.proofs.input.read_to_end.Statement.{statement}
 use Rattle.archive_io.proofs.input.read_to_end.Tie as tie
@@ -37,7 +37,7 @@ same-length : tie.Need-same-length Inv-loop μ-loop
 same-length c = search needs
 
 returns : tie.Need-returns Inv-loop μ-loop
-returns c = let r = c .before .before .before .before .read-more in ended (r .result) (r .ensures .1) (c .enum-told2 .given .1)
+returns c = let r = c .before .before .before .before .read-more in filled-ended (r .result) (r .ensures .1) (c .enum-told2 .given .1)
 
 enum-told-3 : tie.Need-enum-told-3 Inv-loop μ-loop
 enum-told-3 c = search needs
@@ -46,13 +46,13 @@ same-length-2 : tie.Need-same-length-2 Inv-loop μ-loop
 same-length-2 c = search needs
 
 returns-2 : tie.Need-returns-2 Inv-loop μ-loop
-returns-2 c = let r = c .before .before .before .before .read-more in failed (r .result) (r .ensures .1) (c .enum-told3 .given .1)
+returns-2 c = let r = c .before .before .before .before .read-more in filled-failed (r .result) (r .ensures .1) (c .enum-told3 .given .1)
 
 same-length-3 : tie.Need-same-length-3 Inv-loop μ-loop
 same-length-3 c = search needs
 
 returns-3 : tie.Need-returns-3 Inv-loop μ-loop
-returns-3 c = full (c .before .loop .inv .0) (c .loop-test .left)
+returns-3 c = filled-full (c .before .loop .inv .0) (c .loop-test .left)
 
 pub read-to-end-spec : {M : Type 1} → statement M
 read-to-end-spec =

@@ -2,7 +2,7 @@
 use native.Mathlib.Omega.{arith}
 use lib.ListN.{length-take, length-drop}
 use borrow.Author.Needs.{needs}
-use Rattle.archive_io.proofs.FrontWriting.{within, line-behind}
+use Rattle.archive_io.proofs.FrontWriting.{front-within, line-behind}
 use Rattle.archive_io.proofs.notice.write_refused.Statement.{statement}
 use Rattle.archive_io.proofs.notice.write_refused.Tie as tie
 
@@ -27,7 +27,7 @@ write-pair-requires c κs = search needs
 add-result : tie.Need-add-result
 add-result c =
     omega
-    (arith, within (c .before .before .write-pair .ensures), simp (length-take, length-drop) at (c .before .before .write-pair .kept .0))
+    (arith, front-within (c .before .before .write-pair .ensures), simp (length-take, length-drop) at (c .before .before .write-pair .kept .0))
 
 same-length : tie.Need-same-length
 same-length c = search needs

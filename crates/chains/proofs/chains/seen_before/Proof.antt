@@ -21,11 +21,11 @@ stand-among-requires c κs =
     let tables = pre .1 .1 .1 .1 in
     (omega (arith, tables .earlier (start .args .slot)), (omega (arith, pre .0, pre .1 .0), (tables .room, tables .falling)))
 
-add-mark : tie.Need-add-mark
-add-mark c = search needs
+add-link : tie.Need-add-link
+add-link c = search needs
 
-cast-mark : tie.Need-cast-mark
-cast-mark c = search needs
+cast-link : tie.Need-cast-link
+cast-link c = search needs
 
 mul-next : tie.Need-mul-next
 mul-next c = search needs
@@ -56,8 +56,8 @@ seen-before-spec =
     slice-read-first
     sub-stand-among
     stand-among-requires
-    add-mark
-    cast-mark
+    add-link
+    cast-link
     mul-next
     slice-write-next
     mul-head

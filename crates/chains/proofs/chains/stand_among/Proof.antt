@@ -1,4 +1,4 @@
--- `chains::chains::stand_among` meets its contract: the marks from the one looked at on decide.
+-- `chains::chains::stand_among` meets its contract: the links from the one looked at on decide.
 use borrow.Author.Needs.{needs}
 use mathlib.Core.Path.{refl}
 use Prim.Native.Nat.{_-_, _/_}
@@ -8,11 +8,11 @@ use Rattle.chains.proofs.chains.stand_among.Statement.{statement}
 use Rattle.chains.proofs.chains.stand_among.Tie as tie
 
 abbrev Inv-loop : tie.InvT-loop
-Inv-loop bytes at n first next mark₀ mark =
-    Walk bytes next at n first mark
+Inv-loop bytes at n first next link₀ link =
+    Walk bytes next at n first link
 
 abbrev μ-loop : tie.MeasureT-loop
-μ-loop bytes at n first next mark₀ mark = mark
+μ-loop bytes at n first next link₀ link = link
 
 loop-holds : tie.Need-loop-holds Inv-loop μ-loop
 loop-holds c = record { below = c .before .before .pre .0; left = refl }
@@ -29,17 +29,17 @@ returns c =
     let start = l .before .before .before .before in
     walk-here (l .before .loop .inv) (start .pre .1 .1 .1) (start .pre .1 .0) (l .loop-test .taken) (c .before .same-bytes .ensures) (c .if1 .taken)
 
-mul-mark : tie.Need-mul-mark Inv-loop μ-loop
-mul-mark c = search needs
+mul-link : tie.Need-mul-link Inv-loop μ-loop
+mul-link c = search needs
 
-shared-slice-read-mark : tie.Need-shared-slice-read-mark Inv-loop μ-loop
-shared-slice-read-mark c = search needs
+shared-slice-read-link : tie.Need-shared-slice-read-link Inv-loop μ-loop
+shared-slice-read-link c = search needs
 
-cast-mark : tie.Need-cast-mark Inv-loop μ-loop
-cast-mark c =
+cast-link : tie.Need-cast-link Inv-loop μ-loop
+cast-link c =
     let l = c .before .before .before in
     let start = l .before .before .before .before in
-    omega (arith, start .pre .1 .1 .1 .law ((l .before .loop .mark - 1) / 12), l .before .loop .inv .below, start .fits .at)
+    omega (arith, start .pre .1 .1 .1 .law ((l .before .loop .link - 1) / 12), l .before .loop .inv .below, start .fits .at)
 
 loop-less : tie.Need-loop-less Inv-loop μ-loop
 loop-less c =
@@ -66,9 +66,9 @@ stand-among-spec =
     sub-start
     same-bytes-requires
     returns
-    mul-mark
-    shared-slice-read-mark
-    cast-mark
+    mul-link
+    shared-slice-read-link
+    cast-link
     loop-less
     loop-again
     returns-2)

@@ -2,8 +2,8 @@
 use mathlib.Core.Path.{subst}
 use Prim.Native.Nat.{_-_}
 use lib.ListN.{length}
-use Rattle.fields.specs.Field.{FieldOf}
-use Rattle.fields.proofs.Numbers.{mark-under}
+use Rattle.decimals.specs.Field.{FieldOf}
+use Rattle.fields.proofs.Numbers.{delimiter-under}
 use Rattle.fields.proofs.Codec.{ReadSoFar, read-start, read-next, read-none, read-end}
 use borrow.Author.Needs.{needs}
 use Rattle.fields.proofs.line.read.Statement.{statement}
@@ -18,18 +18,18 @@ abbrev μ-loop : tie.MeasureT-loop
 loop-holds : tie.Need-loop-holds Inv-loop μ-loop
 loop-holds c = read-start _ _
 
-sub-mark-before : tie.Need-sub-mark-before Inv-loop μ-loop
-sub-mark-before c = search needs
+sub-delimiter-before : tie.Need-sub-delimiter-before Inv-loop μ-loop
+sub-delimiter-before c = search needs
 
-sub-mark-before-2 : tie.Need-sub-mark-before-2 Inv-loop μ-loop
-sub-mark-before-2 c = search needs
+sub-delimiter-before-2 : tie.Need-sub-delimiter-before-2 Inv-loop μ-loop
+sub-delimiter-before-2 c = search needs
 
-mark-before-requires : tie.Need-mark-before-requires Inv-loop μ-loop
-mark-before-requires c κs = search needs
+delimiter-before-requires : tie.Need-delimiter-before-requires Inv-loop μ-loop
+delimiter-before-requires c κs = search needs
 
 read-field-requires : tie.Need-read-field-requires Inv-loop μ-loop
 read-field-requires c κs =
-    mark-under (length (c .before .before .loop .numbers) - c .before .before .loop .k - 1) (c .mark-before .ensures)
+    delimiter-under (length (c .before .before .loop .numbers) - c .before .before .loop .k - 1) (c .delimiter-before .ensures)
 
 enum-known-number : tie.Need-enum-known-number Inv-loop μ-loop
 enum-known-number c = search needs
@@ -43,7 +43,7 @@ same-length c = search needs
 returns : tie.Need-returns Inv-loop μ-loop
 returns c =
     let m = c .before .before .before in
-    read-none (m .before .before .loop .inv) (m .before .loop-test .taken) (m .mark-before .ensures)
+    read-none (m .before .before .loop .inv) (m .before .loop-test .taken) (m .delimiter-before .ensures)
     (subst (FieldOf _ _ _) (c .enum-told .given .1) (c .before .before .read-field .ensures))
 
 mul-numbers : tie.Need-mul-numbers Inv-loop μ-loop
@@ -61,7 +61,7 @@ loop-less c = search needs
 loop-again : tie.Need-loop-again Inv-loop μ-loop
 loop-again c =
     let m = c .before .before .before .before in
-    read-next (m .before .before .loop .inv) (m .before .loop-test .taken) (m .mark-before .ensures)
+    read-next (m .before .before .loop .inv) (m .before .loop-test .taken) (m .delimiter-before .ensures)
     (subst (FieldOf _ _ _) (c .before .number .given .1) (c .before .before .before .read-field .ensures))
 
 same-length-2 : tie.Need-same-length-2 Inv-loop μ-loop
@@ -77,9 +77,9 @@ read-spec =
     Inv-loop
     μ-loop
     loop-holds
-    sub-mark-before
-    sub-mark-before-2
-    mark-before-requires
+    sub-delimiter-before
+    sub-delimiter-before-2
+    delimiter-before-requires
     read-field-requires
     enum-known-number
     enum-told

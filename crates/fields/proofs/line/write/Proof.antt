@@ -16,14 +16,14 @@ abbrev μ-loop : tie.MeasureT-loop
 loop-holds : tie.Need-loop-holds Inv-loop μ-loop
 loop-holds c = front-start _ _
 
-sub-mark-before : tie.Need-sub-mark-before Inv-loop μ-loop
-sub-mark-before c = search needs
+sub-delimiter-before : tie.Need-sub-delimiter-before Inv-loop μ-loop
+sub-delimiter-before c = search needs
 
-sub-mark-before-2 : tie.Need-sub-mark-before-2 Inv-loop μ-loop
-sub-mark-before-2 c = search needs
+sub-delimiter-before-2 : tie.Need-sub-delimiter-before-2 Inv-loop μ-loop
+sub-delimiter-before-2 c = search needs
 
-mark-before-requires : tie.Need-mark-before-requires Inv-loop μ-loop
-mark-before-requires c κs = search needs
+delimiter-before-requires : tie.Need-delimiter-before-requires Inv-loop μ-loop
+delimiter-before-requires c κs = search needs
 
 mul-write-field : tie.Need-mul-write-field Inv-loop μ-loop
 mul-write-field c = search needs
@@ -34,7 +34,7 @@ shared-slice-read-write-field c = search needs
 write-field-requires : tie.Need-write-field-requires Inv-loop μ-loop
 write-field-requires c κs =
     let l = c .before .before .before in
-    front-room (l .before .loop .inv) (next-field _ _ (l .loop-test .taken) (c .before .before .mark-before .ensures))
+    front-room (l .before .loop .inv) (next-field _ _ (l .loop-test .taken) (c .before .before .delimiter-before .ensures))
     (l .before .before .before .before .pre)
 
 add-k : tie.Need-add-k Inv-loop μ-loop
@@ -47,7 +47,7 @@ loop-again : tie.Need-loop-again Inv-loop μ-loop
 loop-again c =
     let w = c .before .before in
     let m = w .before .before .before in
-    front-next (m .before .before .loop .inv) (next-field _ _ (m .before .loop-test .taken) (m .mark-before .ensures))
+    front-next (m .before .before .loop .inv) (next-field _ _ (m .before .loop-test .taken) (m .delimiter-before .ensures))
     (w .write-field .ensures) (w .write-field .kept .0)
 
 same-length : tie.Need-same-length Inv-loop μ-loop
@@ -63,9 +63,9 @@ write-spec =
     Inv-loop
     μ-loop
     loop-holds
-    sub-mark-before
-    sub-mark-before-2
-    mark-before-requires
+    sub-delimiter-before
+    sub-delimiter-before-2
+    delimiter-before-requires
     mul-write-field
     shared-slice-read-write-field
     write-field-requires

@@ -17,7 +17,7 @@ low-bits-requires c κs = search needs
 returns : tie.Need-returns
 returns c =
     c .low-bits .ensures
-    ∙ element-walks (c .before .before .before .pre) (c .before .before .jump .ensures) (c .before .value-at .ensures)
+    ∙ element-walks (c .before .before .before .pre) (c .before .before .jump .ensures .walks) (c .before .value-at .ensures)
 
 pub element-at-spec : {M : Type 1} → statement M
 element-at-spec = tie.close (tie.spec jump-requires value-at-requires low-bits-requires returns)

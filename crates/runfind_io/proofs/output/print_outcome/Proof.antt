@@ -1,6 +1,6 @@
 -- `output::print_outcome` is safe and ends: the line is within the buffer.
 use Rattle.io.proofs.Counting.{counts}
-use Rattle.archive_io.proofs.FrontWriting.{within}
+use Rattle.archive_io.proofs.FrontWriting.{front-within}
 use borrow.Author.Needs.{needs}
 use Rattle.runfind_io.proofs.output.print_outcome.Statement.{statement}
 use Rattle.runfind_io.proofs.output.print_outcome.Tie as tie
@@ -12,10 +12,10 @@ write-outcome-requires : tie.Need-write-outcome-requires
 write-outcome-requires c κs = search needs
 
 array-share-prefix-buf : tie.Need-array-share-prefix-buf
-array-share-prefix-buf c = within (c .before .write-outcome .ensures)
+array-share-prefix-buf c = front-within (c .before .write-outcome .ensures)
 
 slice-aggregate-print : tie.Need-slice-aggregate-print
-slice-aggregate-print c = counts _ _ (within (c .before .before .write-outcome .ensures)) .1
+slice-aggregate-print c = counts _ _ (front-within (c .before .before .write-outcome .ensures)) .1
 
 slice-aggregate-print-2 : tie.Need-slice-aggregate-print-2
 slice-aggregate-print-2 c = search needs

@@ -1,4 +1,6 @@
--- `answer::answer` meets its contract: the archive is refused, has no such line, or the run of that line is read.
+-- `answer::answer` meets its contract: the archive is refused, has no such line, or the line is accepted and its run is read.
+use Rattle.archive.proofs.Checking.{check-accepted}
+use Rattle.archive.proofs.PartOfLine.{part-accepted, part-run}
 use Rattle.runshow_io.proofs.Answering.{answer-refused, answer-none, answer-part}
 use borrow.Author.Needs.{needs}
 use Rattle.runshow_io.proofs.answer.answer.Statement.{statement}
@@ -21,32 +23,47 @@ returns c =
 enum-told : tie.Need-enum-told
 enum-told c = search needs
 
-line-requires : tie.Need-line-requires
-line-requires c κs = search needs
-
-read-line-requires : tie.Need-read-line-requires
-read-line-requires c κs = search needs
-
-enum-known-run : tie.Need-enum-known-run
-enum-known-run c = search needs
-
-enum-told-2 : tie.Need-enum-told-2
-enum-told-2 c = search needs
+part-of-line-requires : tie.Need-part-of-line-requires
+part-of-line-requires c κs = check-accepted (c .enum-told .given .1) (c .before .before .checked .ensures)
 
 returns-2 : tie.Need-returns-2
 returns-2 c =
-    let r = c .before .before in
-    answer-none (r .before .before .before .before .checked .ensures) _ _ _ (r .before .before .enum-told .given .1)
-    (r .before .line .ensures) (r .read-line .ensures) (c .enum-told2 .given .1)
+    let told = c .before .before in
+    answer-none (told .before .before .checked .ensures) _ _ _ (told .enum-told .given .1) (c .before .part-of-line .ensures)
+    (c .if1 .taken)
 
-part-requires : tie.Need-part-requires
-part-requires c κs = search needs
+add-end : tie.Need-add-end
+add-end c = search needs
+
+sub-accepted-run : tie.Need-sub-accepted-run
+sub-accepted-run c = search needs
+
+part-accepted-run-start : tie.Need-part-accepted-run-start
+part-accepted-run-start c = search needs
+
+part-accepted-run-end : tie.Need-part-accepted-run-end
+part-accepted-run-end c = search needs
+
+accepted-run-requires : tie.Need-accepted-run-requires
+accepted-run-requires c κs =
+    let p = c .before .before in
+    let told = p .before in
+    part-accepted (p .part-of-line .result) (p .part-of-line .ensures)
+    (check-accepted (told .enum-told .given .1) (told .before .before .checked .ensures))
+    (c .before .if1 .left)
+
+part-of-run-requires : tie.Need-part-of-run-requires
+part-of-run-requires c κs = search needs
 
 returns-3 : tie.Need-returns-3
 returns-3 c =
-    let r = c .before .before .before .before in
-    answer-part (r .before .before .before .before .checked .ensures) _ _ _ (r .before .before .enum-told .given .1)
-    (r .before .line .ensures) (r .read-line .ensures) (c .before .before .run .given .1) (c .part .ensures)
+    let p = c .before .before .before .before in
+    let told = p .before in
+    let check = told .before .before .checked .ensures in
+    let run =
+    part-run (p .part-of-line .result) (p .part-of-line .ensures) (check-accepted (told .enum-told .given .1) check)
+    (c .before .before .before .if1 .left) (c .before .accepted-run .ensures) in
+    answer-part check _ _ _ (told .enum-told .given .1) run (c .part-of-run .ensures)
 
 pub answer-spec : {M : Type 1} → statement M
 answer-spec =
@@ -57,10 +74,12 @@ answer-spec =
     number-requires
     returns
     enum-told
-    line-requires
-    read-line-requires
-    enum-known-run
-    enum-told-2
+    part-of-line-requires
     returns-2
-    part-requires
+    add-end
+    sub-accepted-run
+    part-accepted-run-start
+    part-accepted-run-end
+    accepted-run-requires
+    part-of-run-requires
     returns-3)

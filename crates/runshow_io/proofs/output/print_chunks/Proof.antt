@@ -4,7 +4,7 @@ use native.Mathlib.Omega.{arith}
 use lib.ListN.{length}
 use borrow.Author.Needs.{needs}
 use Rattle.io.proofs.Counting.{counts}
-use Rattle.archive_io.proofs.FrontWriting.{within}
+use Rattle.archive_io.proofs.FrontWriting.{front-within}
 use Rattle.runshow_io.proofs.Chunks.{chunk-left}
 use Rattle.runshow_io.proofs.output.print_chunks.Statement.{statement}
 use Rattle.runshow_io.proofs.output.print_chunks.Tie as tie
@@ -32,12 +32,12 @@ returns : tie.Need-returns Inv-loop μ-loop
 returns c = search needs
 
 slice-reshare-prefix-print : tie.Need-slice-reshare-prefix-print Inv-loop μ-loop
-slice-reshare-prefix-print c = let e = c in within (e .before .before .before .before .before .write-chunk .ensures .written)
+slice-reshare-prefix-print c = let e = c in front-within (e .before .before .before .before .before .write-chunk .ensures .written)
 
 slice-aggregate-print : tie.Need-slice-aggregate-print Inv-loop μ-loop
 slice-aggregate-print c =
     let e = c .before in
-    counts _ _ (within (e .before .before .before .before .before .write-chunk .ensures .written)) .1
+    counts _ _ (front-within (e .before .before .before .before .before .write-chunk .ensures .written)) .1
 
 slice-aggregate-print-2 : tie.Need-slice-aggregate-print-2 Inv-loop μ-loop
 slice-aggregate-print-2 c = search needs

@@ -1,6 +1,6 @@
 -- `output::print_notice` is safe and ends: the line is within the buffer.
 use Rattle.io.proofs.Counting.{counts}
-use Rattle.archive_io.proofs.FrontWriting.{within}
+use Rattle.archive_io.proofs.FrontWriting.{front-within}
 use borrow.Author.Needs.{needs}
 use Rattle.runshow_io.proofs.output.print_notice.Statement.{statement}
 use Rattle.runshow_io.proofs.output.print_notice.Tie as tie
@@ -12,10 +12,10 @@ write-notice-requires : tie.Need-write-notice-requires
 write-notice-requires c κs = search needs
 
 array-share-prefix-buf : tie.Need-array-share-prefix-buf
-array-share-prefix-buf c = within (c .before .write-notice .ensures)
+array-share-prefix-buf c = front-within (c .before .write-notice .ensures)
 
 slice-aggregate-print : tie.Need-slice-aggregate-print
-slice-aggregate-print c = counts _ _ (within (c .before .before .write-notice .ensures)) .1
+slice-aggregate-print c = counts _ _ (front-within (c .before .before .write-notice .ensures)) .1
 
 slice-aggregate-print-2 : tie.Need-slice-aggregate-print-2
 slice-aggregate-print-2 c = search needs

@@ -1,0 +1,6 @@
+-- For the crates above: `Walking`, on maps of some steps; `Trace`, where a jump stands after k rounds and what its end is;
+-- `TraceNumbers`, a jump's states as computed numbers. `TraceExamples` computes one jump, for the elements that it passes too.
+pub mod Walking
+pub mod Trace
+pub mod TraceNumbers
+pub mod TraceExamples

@@ -1,0 +1,3 @@
+-- Laws of runs, and examples.
+pub mod Runs
+pub mod Examples

@@ -1,0 +1,2 @@
+-- Laws of the loops of this crate.
+pub mod Rounds

@@ -1,0 +1,154 @@
+-- What the loops of this crate hold: for every sequence and number with which their locals can have begun, the search as
+-- `sequences` has it. What is true of the locals whatever they began with stands beside it: `differs` is α of `away`, `period` is
+-- 2 ^ e modulo 2 ^ 64, and the counters stay below the limit. One law stands for each way through a body.
+--   loop-start, loop-stays, loop-doubles, loop-stops, loop-done   the search for a number
+--   turn-start, turn-stays, turn-doubles, turn-done               the search for the first element, where nothing is away
+use mathlib.Core.Path.{_≡_, refl}
+use mathlib.Core.Bool.{Bool, true, false, cond}
+use Prim.Native.Nat.{ℕ, suc, _+_, _*_, _%_, _^_, _≤_, _<_}
+use native.Mathlib.Nat.{le-antisymm}
+use native.Mathlib.Numerals.{add-one}
+use native.Mathlib.Omega.{arith}
+use lib.Dec.{eqb}
+use borrow.Author.Tests.{eqb-true, eqb-false}
+use Rattle.words.specs.Alpha.{Alpha}
+use Rattle.words.proofs.Congruence.{Congruent, same-refl, same-trans, same-regroup, same-result, same-add}
+use Rattle.sequences.specs.Search.{Begins}
+use Rattle.sequences.proofs.Searches.{
+  Searching,
+  search-start,
+  search-stays,
+  search-stops,
+  search-doubles,
+  search-ahead,
+  search-done,
+  search-index,
+}
+use Rattle.search.specs.Settling.{Settling, Doubling}
+
+-- The search for a number.
+pub record Loop (limit away₀ drift₀ factor₀ away drift factor differs k period e m : ℕ) : Type 0 where
+  pub within : m ≤ limit
+  pub exponent-within : e ≤ m
+  pub alpha : Alpha away differs
+  pub power : Congruent (2 ^ 64) period (2 ^ e)
+  pub law : (n : ℕ) (x : ℕ → ℕ) (y : ℕ) → Begins n x y limit away₀ drift₀ factor₀ →
+      Searching n x y limit away drift factor k e m
+
+pub loop-start : {away differs : ℕ} (limit drift factor : ℕ) → Alpha away differs →
+    Loop limit away drift factor away drift factor differs 0 1 0 0
+loop-start limit drift factor β =
+    record {
+      within = omega arith;
+      exponent-within = omega arith;
+      alpha = β;
+      power = same-refl (2 ^ 64) 1;
+      law = λ n x y b. search-start b;
+    }
+
+-- twice a period, modulo 2 ^ 64
+power-twice : (e : ℕ) {period twice : ℕ} → Congruent (2 ^ 64) period (2 ^ e) → twice ≡ (period + period) % 2 ^ 64 →
+    Congruent (2 ^ 64) twice (2 ^ suc e)
+power-twice e {period} h q = same-trans (same-result (period + period) q) (same-regroup (same-add h h) refl (omega arith))
+
+module _ {limit away₀ drift₀ factor₀ away drift factor differs k period e m : ℕ}
+    (loop : Loop limit away₀ drift₀ factor₀ away drift factor differs k period e m) where
+  pub loop-done : limit ≤ m → Settling away₀ drift₀ factor₀ limit (record { places = m; index = k; exponent = e })
+  loop-done l = record { settles = λ n x y b. search-done b (loop .law n x y b) l }
+
+  module _ {returning : ℕ} (l : m < limit) (α : Alpha drift returning) where
+    -- the period stays, and the number differs
+    pub loop-stops : (returning ≡ m → ⊥) → differs ≡ m →
+        Settling away₀ drift₀ factor₀ limit (record { places = m; index = k; exponent = e })
+    loop-stops r d = record { settles = λ n x y b. search-stops b (loop .law n x y b) l α (loop .alpha) r d }
+
+    -- it stays, and the number agrees
+    pub loop-stays : (returning ≡ m → ⊥) → (differs ≡ m → ⊥) →
+        Loop limit away₀ drift₀ factor₀ away drift factor differs k period e (m + 1)
+    loop-stays r d =
+        record {
+          within = omega arith;
+          exponent-within = omega arith;
+          alpha = loop .alpha;
+          power = loop .power;
+          law = λ n x y b. search-stays b (loop .law n x y b) l α (loop .alpha) r d;
+        }
+
+    -- it doubles, and what goes on is chosen by whether the number differs
+    module _ {product moved beyond ahead square next wide twice : ℕ} (r : returning ≡ m)
+        (ep : product ≡ factor * away % 2 ^ 64) (em : moved ≡ (product + drift) % 2 ^ 64) (β : Alpha moved beyond)
+        (ea : ahead ≡ (k + period) % 2 ^ 64) (es : square ≡ factor * factor % 2 ^ 64)
+        (en : next ≡ (factor + 1) % 2 ^ 64) (ew : wide ≡ next * drift % 2 ^ 64)
+        (et : twice ≡ (period + period) % 2 ^ 64) where
+      either : (test : Bool) → eqb differs m ≡ test →
+          Loop limit away₀ drift₀ factor₀ (cond test moved away) wide square (cond test beyond differs) (cond test ahead k)
+          twice (e + 1) (m + 1)
+      either true q =
+          record {
+            within = omega arith;
+            exponent-within = omega (arith, loop .exponent-within);
+            alpha = β;
+            power = rw add-one (power-twice e (loop .power) et);
+            law =
+                λ n x y b.
+                let s = loop .law n x y b in
+                rw (search-index b s l (loop .power) ea)
+                (search-ahead b s l α (loop .alpha) en ew es r ep em (eqb-true _ _ q));
+          }
+      either false q =
+          record {
+            within = omega arith;
+            exponent-within = omega (arith, loop .exponent-within);
+            alpha = loop .alpha;
+            power = rw add-one (power-twice e (loop .power) et);
+            law =
+                λ n x y b.
+                search-doubles b (loop .law n x y b) l α (loop .alpha) en ew es r (eqb-false _ _ q);
+          }
+
+      pub loop-doubles : {differs′ k′ away′ : ℕ} → differs′ ≡ cond (eqb differs m) beyond differs →
+          k′ ≡ cond (eqb differs m) ahead k → away′ ≡ cond (eqb differs m) moved away →
+          Loop limit away₀ drift₀ factor₀ away′ wide square differs′ k′ twice (e + 1) (m + 1)
+      loop-doubles ed ek ew′ = rw (ed, ek, ew′) (either (eqb differs m) refl)
+
+-- The search for the first element.
+pub record Turn (limit drift₀ factor₀ drift factor e m : ℕ) : Type 0 where
+  pub within : m ≤ limit
+  pub exponent-within : e ≤ m
+  pub law : (n : ℕ) (x : ℕ → ℕ) → Begins n x (x 0) limit 0 drift₀ factor₀ →
+      Searching n x (x 0) limit 0 drift factor 0 e m
+
+pub turn-start : (limit drift factor : ℕ) → Turn limit drift factor drift factor 0 0
+turn-start limit drift factor =
+    record { within = omega arith; exponent-within = omega arith; law = λ n x b. search-start b }
+
+-- α of nothing, at no place of the word
+alpha-zero : Alpha 0 64
+alpha-zero = record { multiple = refl; exact = λ f. absurd (f refl); at-zero = λ q. refl; small = omega arith }
+
+module _ {limit drift₀ factor₀ drift factor e m : ℕ} (turn : Turn limit drift₀ factor₀ drift factor e m) where
+  pub turn-done : limit ≤ m → Doubling drift₀ factor₀ limit e
+  turn-done l =
+      let q : m ≡ limit = le-antisymm (turn .within) l in
+      record { settles = λ n x b. rw q at (search-done b (turn .law n x b) l) }
+
+  module _ {returning : ℕ} (l : m < limit) (α : Alpha drift returning) where
+    inside : {n : ℕ} {x : ℕ → ℕ} {y away₀ : ℕ} → Begins n x y limit away₀ drift₀ factor₀ → 64 ≡ m → ⊥
+    inside b q = omega (arith, b .within, b .word)
+
+    pub turn-stays : (returning ≡ m → ⊥) → Turn limit drift₀ factor₀ drift factor e (m + 1)
+    turn-stays r =
+        record {
+          within = omega arith;
+          exponent-within = omega arith;
+          law = λ n x b. search-stays b (turn .law n x b) l α alpha-zero r (inside b);
+        }
+
+    pub turn-doubles : {square next wide : ℕ} → square ≡ factor * factor % 2 ^ 64 → next ≡ (factor + 1) % 2 ^ 64 →
+        wide ≡ next * drift % 2 ^ 64 → returning ≡ m → Turn limit drift₀ factor₀ wide square (e + 1) (m + 1)
+    turn-doubles es en ew r =
+        record {
+          within = omega arith;
+          exponent-within = omega arith;
+          law = λ n x b. search-doubles b (turn .law n x b) l α alpha-zero en ew es r (inside b);
+        }

@@ -1,0 +1,3 @@
+-- The variety of a run, and examples.
+pub mod Varieties
+mod Examples

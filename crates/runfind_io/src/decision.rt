@@ -19,7 +19,7 @@ pub enum Question {
     Malformed,
 }
 
-// What is to be printed, and what was read of the file for it.
+// What is to be printed, and what was read of the file, which the promise of `respond` speaks of.
 pub struct Response {
     pub outcome: Outcome,
     pub archive: Reading,

@@ -1,4 +1,5 @@
--- What each way out of the answer shows.
+-- What each way out of the answer shows: the archive is refused; it has no such line, and the empty line reads as the run of
+-- zeros, which has no position; or the line is accepted, and the part of its run is shown.
 use mathlib.Core.Path.{_≡_, refl, sym, ap, _∙_}
 use mathlib.Core.List.{List, []}
 use Prim.Native.Nat.{ℕ, suc, _≤_, _<_}
@@ -12,7 +13,7 @@ use Rattle.runs.specs.declared.Run.{Run}
 use Rattle.lines.specs.Line.{noRun}
 use Rattle.lines.specs.ReadLine.{readOf}
 use Rattle.fields.specs.Line.{numbersFrom, isLine}
-use Rattle.archive.specs.declared.Part.{Part as PartOf}
+use Rattle.archive.specs.declared.Part.{Part as LinePart}
 use Rattle.archive.proofs.PartOfLine.{part-none}
 use Rattle.archive.specs.declared.ArchiveCheck.{ArchiveCheck}
 use Rattle.archive.specs.declared.ArchiveCheck.the-variants as verdict
@@ -66,7 +67,7 @@ module _ {bytes : List ℕ} {check : ArchiveCheck} (p : CheckPromise bytes (plai
     accepted = let z = check-accepted e p in rw (z, outcomeOf)
 
     -- the line is not there, or it has this run
-    pub answer-none : {part : PartOf} → PartPromise bytes line part → part .length ≡ 0 → Told NotFound ≡ outcomeOf bytes line first many
+    pub answer-none : {part : LinePart} → PartPromise bytes line part → part .length ≡ 0 → Told NotFound ≡ outcomeOf bytes line first many
     answer-none {part} at z =
         run-behind noRun first many (omega arith)
         ∙ ap (λ (run : Run). partOfRun run first many) (sym (ap (λ (bs : List ℕ). readOf bs .run) (part-none part at z) ∙ empty-run))

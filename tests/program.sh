@@ -112,14 +112,77 @@ with_near_twin() {
     with_twin 9 5459 | sed '5459s/.$/1/'
 }
 
-# Runs a program whose standard input is a pipe that is still open but has nothing to read.
+# Runs a program, the second argument, whose standard input is a pipe that is still open and holds no more than the first, in
+# which \n is byte 10: the read behind that fails.
 not_blocking='
 import os, sys
 out, into = os.pipe()
+os.write(into, sys.argv[1].replace("\\n", "\n").encode())
 os.set_blocking(out, False)
 os.dup2(out, 0)
 os.set_inheritable(into, True)
-os.execv(sys.argv[1], sys.argv[1:])'
+os.execv(sys.argv[2], sys.argv[2:])'
+
+# failing_read: a library to preload, by which the read of the number in FAILS_AT fails, of those of standard input, or, where
+# FAILS_OF is "file", of any other; each brings at most as many bytes as PIECE says.
+failing_read() {
+    gcc -shared -fPIC -o "$work/failing_read.so" "$(dirname "$reference")/failing_read.c"
+}
+
+# fails_at NUMBER SOURCE PIECE NAME WANTED: with such a read the program prints WANTED; standard input as for prints.
+fails_at() {
+    prints "$4" "$5" env LD_PRELOAD="$work/failing_read.so" FAILS_AT="$1" FAILS_OF="$2" PIECE="$3"
+}
+
+# failing_files EXAMPLE: a read of the file fails, in its midst or behind its last byte. Without such a read the program prints
+# EXAMPLE.
+failing_files() {
+    failing_read || { report FAIL 'no library to preload'; return; }
+    archive "$example"
+    printf '%b' "$question" | fails_at 0 file 65537 'no read of the file fails' "$1"
+    printf '%b' "$question" | fails_at 0 file 1 'no read of the file fails, a byte at a time' "$1"
+    printf '%b' "$question" | fails_at 1 file 65537 'the first read of the file fails' unread
+    printf '%b' "$question" | fails_at 2 file 65537 'the second read of the file fails, behind its last byte' unread
+    printf '%b' "$question" | fails_at 2 file 13 'the second read of the file fails, behind its first line' unread
+    printf '%b' "$question" | fails_at 3 file 13 'the third read of the file fails, within its second line' unread
+    printf '%b' "$question" | fails_at 34 file 1 'the 34th read of the file fails, behind its last byte' unread
+}
+
+# failing_questions EXAMPLE: the same of standard input that holds the question.
+failing_questions() {
+    failing_read || { report FAIL 'no library to preload'; return; }
+    archive "$example"
+    printf '%b' "$question" | fails_at 0 input 1 'no read of standard input fails, a byte at a time' "$1"
+    printf '%b' "$question" | fails_at 1 input 64 'the first read of standard input fails' question
+    printf '%b' "$question" | fails_at 2 input 64 'the second read of standard input fails, behind a question' question
+    printf '%b' "$question" | fails_at "$(($(printf '%b' "$question" | wc -c) + 1))" input 1 \
+        'the last of many reads of standard input fails, behind a question' question
+    prints 'a question, and no end, on a standard input that does not block' question \
+        python3 -c "$not_blocking" "$question"
+}
+
+# Runs a program whose standard output is a pipe that is full, so that it waits there, and tells whether it holds the file open.
+full_output='
+import os, subprocess, sys, time
+out, into = os.pipe()
+os.set_blocking(into, False)
+try:
+    while True:
+        os.write(into, bytes(4096))
+except BlockingIOError:
+    os.set_blocking(into, True)
+program = subprocess.Popen(sys.argv[1], stdout=into)
+time.sleep(0.5)
+held = f"/proc/{program.pid}/fd"
+names = [os.path.basename(os.readlink(os.path.join(held, one))) for one in os.listdir(held)]
+print("ended" if program.poll() is not None else "open" if "archive.csv" in names else "closed")
+program.kill()'
+
+# closed_file: the file is closed once it is read.
+closed_file() {
+    archive "$example"
+    printf '%b' "$question" | prints 'the file is not open while the answer is written' closed python3 -c "$full_output"
+}
 
 # refused NAME NUMBER TEXT: the text behind a good line is refused with this number, as line 2, though line 1 answers the
 # question.
@@ -381,6 +444,10 @@ question_first() {
     answers 'bad question, a folder as archive' 'x\n' question
     archive 'spoiled'
     answers 'bad question, refused archive' 'x\n' question
+    fresh
+    mkfifo "$folder/archive.csv"
+    local limit=10
+    answers 'bad question, a pipe that nobody writes to as archive' 'x\n' question
 }
 
 # unwritten NAME QUESTION SENTENCE: output that can't be written is told in this sentence on standard error.

@@ -52,7 +52,7 @@ questions() {
     answers 'zero' '0\n' 1,9
     prints 'standard input closed' question <&-
     prints 'standard input is a folder' question <"$work"
-    prints 'standard input is empty and does not block' question python3 -c "$not_blocking"
+    prints 'standard input is empty and does not block' question python3 -c "$not_blocking" ''
     digits | prints '100 MB of digits' question
     { digits; echo; } | prints '100 MB of digits and byte 10' question
     { echo 5; digits; } | prints '100 MB behind byte 10' question
@@ -173,6 +173,12 @@ in_pieces() {
     archives_in_pieces 2,0 none 5460,0
 }
 
+failing_reads() {
+    failing_files 1,4
+    failing_questions 1,4
+    closed_file
+}
+
 unwritable() {
     archive "$example"
     unwritten 'an answer' '5\n' 'runfind: the answer could not be written'
@@ -189,5 +195,6 @@ even_multipliers
 prime_modulus
 mixed_archives
 in_pieces
+failing_reads
 unwritable
 done_with runfind

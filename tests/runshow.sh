@@ -27,6 +27,9 @@ at_the_end() {
     answers 'the last position' '2,7,1\n' 1002
     answers 'the last position, more asked for' '2,7,18446744073709551615\n' 1002
     answers 'as many as can be asked for' '2,0,18446744073709551615\n' "$(lines 49 742 821 434 217 606 541 1002)"
+    answers '2^32 asked for' '2,0,4294967296\n' "$(lines 49 742 821 434 217 606 541 1002)"
+    answers '2^32 + 1 asked for' '2,0,4294967297\n' "$(lines 49 742 821 434 217 606 541 1002)"
+    answers '2^32 + 1 asked for, from the middle' '2,6,4294967297\n' "$(lines 541 1002)"
     answers 'the position behind the last' '2,8,1\n' none
     answers 'a position far behind' '2,18446744073709551615,1\n' none
     answers 'none asked for' '2,0,0\n' none
@@ -65,7 +68,7 @@ questions() {
     answers '64 bytes' '18446744073709551615,18446744073709551615,184467440737095516150\n' question
     prints 'standard input closed' question <&-
     prints 'standard input is a folder' question <"$work"
-    prints 'standard input is empty and does not block' question python3 -c "$not_blocking"
+    prints 'standard input is empty and does not block' question python3 -c "$not_blocking" ''
     digits | prints '100 MB of digits' question
     { echo 2,0,8; digits; } | prints '100 MB behind byte 10' question
     pieces 2, 0 ,8 '\n' | prints 'question in pieces' "$(lines 49 742 821 434 217 606 541 1002)"
@@ -178,6 +181,12 @@ whole_periods() {
     fi
 }
 
+failing_reads() {
+    failing_files "$(lines 49 742 821 434 217 606 541 1002)"
+    failing_questions "$(lines 49 742 821 434 217 606 541 1002)"
+    closed_file
+}
+
 unwritable() {
     archive "$example"
     unwritten 'numbers' '2,0,8\n' 'runshow: the numbers could not be written'
@@ -194,5 +203,6 @@ wide
 prime_modulus
 without_end
 whole_periods
+failing_reads
 unwritable
 done_with runshow

@@ -61,7 +61,7 @@ inputs() {
     prints 'standard input has no end' "$wanted" </dev/zero
     mkfifo "$work/open"
     prints 'standard input is open and has nothing to read' "$wanted" <>"$work/open"
-    prints 'standard input is empty and does not block' "$wanted" python3 -c "$not_blocking"
+    prints 'standard input is empty and does not block' "$wanted" python3 -c "$not_blocking" ''
     digits | prints '100 MB of digits' "$wanted"
     answers 'a question of runfind' '5\n' "$wanted"
     answers 'a question of runshow' '2,0,8\n' "$wanted"
@@ -190,6 +190,11 @@ in_pieces() {
     archives_in_pieces "$(lines 1,16,16 2,8,8 total,24)" total,0 "$(by_reference "$work/longest")"
 }
 
+failing_reads() {
+    failing_files "$(lines 1,16,16 2,8,8 total,24)"
+    closed_file
+}
+
 unwritable() {
     local sentence='runsum: the answer could not be written'
     archive "$example"
@@ -213,5 +218,6 @@ totals
 bad_lines
 full
 in_pieces
+failing_reads
 unwritable
 done_with runsum

@@ -4,7 +4,8 @@
  *     calls <crates/vectors/stdin | cmp - crates/vectors/stdout
  *
  * tests/reference/make_vectors.py makes both files and says how a call is written. A pointer to no
- * bytes is null here. Compiles as C99 and as C++17. */
+ * bytes is null here. Each call is made twice, over memory filled with two different bytes, and the
+ * replies must be the same. Compiles as C99 and as C++17. */
 
 #include <inttypes.h>
 #include <stdarg.h>
@@ -16,13 +17,38 @@
 
 enum { NUMBERS = 256 };
 
-static uint64_t numbers[NUMBERS]; /* of the call in hand */
-static uint8_t room[NUMBERS];     /* for its bytes */
+/* Of the call in hand: its numbers; the run of the first six; bytes, and their length. */
+static uint64_t numbers[NUMBERS];
+static np_run run;
+static uint8_t room[NUMBERS];
+static const uint8_t *bytes;
+static size_t length;
 
 static void fail(const char *what)
 {
     printf("%s\n", what);
     exit(1);
+}
+
+/* The bytes whose count is the number at this place. */
+static void take_bytes(size_t at)
+{
+    size_t i;
+
+    if (numbers[at] >= NUMBERS - at)
+        fail("a call with too many bytes");
+    length = (size_t)numbers[at];
+    for (i = 0; i < length; i++)
+        room[i] = (uint8_t)numbers[at + 1 + i];
+    bytes = length == 0 ? NULL : room;
+}
+
+static void take_run(void)
+{
+    np_generator g = {numbers[0], numbers[1], numbers[2], numbers[3]};
+    np_run r = {g, numbers[4], numbers[5]};
+
+    run = r;
 }
 
 /* Reads the next call and gives its letter; 0 at the end. */
@@ -38,31 +64,13 @@ static int next_call(void)
             fail("a call that does not read");
     if (mark != '\n')
         fail("a call without its byte 10");
+    if (letter == 'R' || letter == 'S')
+        take_bytes(0);
+    else if (letter == 'L' || letter == 'F')
+        take_bytes(1);
+    else
+        take_run();
     return letter;
-}
-
-static np_generator generator(void)
-{
-    np_generator g = {numbers[0], numbers[1], numbers[2], numbers[3]};
-    return g;
-}
-
-static np_run run(void)
-{
-    np_run r = {generator(), numbers[4], numbers[5]};
-    return r;
-}
-
-/* The bytes whose count is the number at this place. */
-static const uint8_t *bytes(size_t at)
-{
-    uint64_t count = numbers[at], i;
-
-    if (count >= NUMBERS - at)
-        fail("a call with too many bytes");
-    for (i = 0; i < count; i++)
-        room[i] = (uint8_t)numbers[at + 1 + i];
-    return count == 0 ? NULL : room;
 }
 
 /* Prints numbers, each a uint64_t. */
@@ -76,43 +84,112 @@ static void print(int count, ...)
     va_end(list);
 }
 
+/* The whole buffer is compared with what printf makes of an accepted run, or with what it was. */
+static np_value write_line(uint64_t lent)
+{
+    uint8_t buffer[NUMBERS], wanted[NUMBERS];
+    char line[NP_LINE_MAX + 21];
+    np_generator g = run.generator;
+    np_value v;
+
+    if (lent > NUMBERS)
+        fail("a buffer that is too long");
+    memset(buffer, 165, sizeof buffer);
+    memset(wanted, 165, sizeof wanted);
+    v = np_write_line(run, lent == 0 ? NULL : buffer, (size_t)lent);
+    if (v.refusal == 0) {
+        snprintf(line, sizeof line, "%" PRIu64 ",%" PRIu64 ",%" PRIu64 ",%" PRIu64 ",%" PRIu64 ",%" PRIu64 "\n",
+                 g.width, g.multiplier, g.increment, g.seed, run.first, run.count);
+        memcpy(wanted, line, strlen(line));
+    }
+    if (memcmp(buffer, wanted, sizeof buffer) != 0)
+        fail("a buffer with other bytes");
+    return v;
+}
+
+/* A remade value, and all numbers of the buffer of which the first were lent. */
+typedef struct { np_value value; uint64_t buffer[5]; } remade_reply;
+
+static remade_reply remake(uint64_t position, uint64_t lent)
+{
+    remade_reply m = {{0, 0}, {1, 2, 3, 4, 5}};
+
+    if (lent > 5)
+        fail("a buffer that is too long");
+    m.value = np_remake(run, position, lent == 0 ? NULL : m.buffer, (size_t)lent);
+    return m;
+}
+
+/* A reply. None has padding, so that replies are the same if their bytes are. */
+typedef union {
+    np_value value;
+    np_orbit_reply orbit;
+    np_index_reply index;
+    np_places_reply places;
+    np_gap_reply gap;
+    np_run_reply run;
+    np_part part;
+    np_lookup_reply lookup;
+    np_summary_reply summary;
+    remade_reply remade;
+} reply;
+
+typedef char no_padding[sizeof(np_value) == 16 && sizeof(np_orbit_reply) == 32 && sizeof(np_index_reply) == 24
+                        && sizeof(np_places_reply) == 40 && sizeof(np_gap_reply) == 24 && sizeof(np_run_reply) == 56
+                        && sizeof(np_part) == 16 && sizeof(np_lookup_reply) == 32 && sizeof(np_summary_reply) == 32
+                        && sizeof(remade_reply) == 56 ? 1 : -1];
+
+/* Makes the call in hand, and gives the size of its reply. */
+static size_t answer(int letter, reply *r)
+{
+    switch (letter) {
+    case 'E': r->value = np_element(run.generator, numbers[4]); return sizeof r->value;
+    case 'O': r->orbit = np_orbit(run.generator); return sizeof r->orbit;
+    case 'I': r->index = np_index(run.generator, numbers[4]); return sizeof r->index;
+    case 'B': r->places = np_index_places(run.generator, numbers[4], numbers[5]); return sizeof r->places;
+    case 'G': r->gap = np_gap(run.generator, numbers[4], numbers[5]); return sizeof r->gap;
+    case 'P': r->value = np_predecessor(run.generator, numbers[4]); return sizeof r->value;
+    case 'C': r->value = np_customary_multiplier(numbers[0]); return sizeof r->value;
+    case 'V': r->value = np_variety(run); return sizeof r->value;
+    case 'W': r->value = write_line(numbers[6]); return sizeof r->value;
+    case 'M': r->remade = remake(numbers[6], numbers[7]); return sizeof r->remade;
+    case 'R': r->run = np_read_line(bytes, length); return sizeof r->run;
+    case 'L': r->part = np_line(bytes, length, numbers[0]); return sizeof r->part;
+    case 'F': r->lookup = np_lookup(bytes, length, numbers[0]); return sizeof r->lookup;
+    case 'S': r->summary = np_summary(bytes, length); return sizeof r->summary;
+    default: fail("no such call"); return 0;
+    }
+}
+
+/* Fills the memory of the reply, and of the stack that the call is made on, and makes the call. Through volatile pointers, so
+ * that no compiler leaves out the filling, or makes the call on another part of the stack. */
+static void *(*volatile fill)(void *, int, size_t) = memset;
+
+static void fill_stack(int byte)
+{
+    uint8_t stack[1 << 14];
+
+    fill(stack, byte, sizeof stack);
+}
+
+static void (*volatile fill_below)(int) = fill_stack;
+static size_t (*volatile answer_below)(int, reply *) = answer;
+
+static size_t answer_over(int byte, int letter, reply *r)
+{
+    fill(r, byte, sizeof *r);
+    fill_below(byte);
+    return answer_below(letter, r);
+}
+
 static void print_value(np_value v)
 {
     print(2, v.refusal, v.value);
 }
 
-/* The whole buffer is compared with what printf makes of an accepted run, or with what it was. */
-static void write_line(np_run r, uint64_t length)
+static void print_remade(remade_reply m)
 {
-    uint8_t buffer[NUMBERS], wanted[NUMBERS];
-    char line[NP_LINE_MAX + 21];
-    np_value v;
-
-    if (length > NUMBERS)
-        fail("a buffer that is too long");
-    memset(buffer, 165, sizeof buffer);
-    memset(wanted, 165, sizeof wanted);
-    v = np_write_line(r, length == 0 ? NULL : buffer, (size_t)length);
-    if (v.refusal == 0) {
-        snprintf(line, sizeof line, "%" PRIu64 ",%" PRIu64 ",%" PRIu64 ",%" PRIu64 ",%" PRIu64 ",%" PRIu64 "\n",
-                 r.generator.width, r.generator.multiplier, r.generator.increment, r.generator.seed, r.first, r.count);
-        memcpy(wanted, line, strlen(line));
-    }
-    if (memcmp(buffer, wanted, sizeof buffer) != 0)
-        fail("a buffer with other bytes");
-    print_value(v);
-}
-
-/* Lends the first numbers of a buffer, and prints all of them. */
-static void remake(np_run r, uint64_t position, uint64_t lent)
-{
-    uint64_t b[5] = {1, 2, 3, 4, 5};
-    np_value v;
-
-    if (lent > 5)
-        fail("a buffer that is too long");
-    v = np_remake(r, position, lent == 0 ? NULL : b, (size_t)lent);
-    print(7, v.refusal, v.value, b[0], b[1], b[2], b[3], b[4]);
+    print(7, m.value.refusal, m.value.value, m.buffer[0], m.buffer[1], m.buffer[2], m.buffer[3], m.buffer[4]);
 }
 
 static void print_orbit(np_orbit_reply r)
@@ -159,12 +236,28 @@ static void print_summary(np_summary_reply r)
     print(4, r.refusal, r.line, r.line_count, r.total);
 }
 
-/* The archive is refused so by every call on it. */
-static void try_refused(const uint8_t *archive, size_t length, uint64_t refusal, uint64_t line)
+static void print_reply(int letter, const reply *r)
 {
-    np_lookup_reply found = np_lookup(archive, length, 0);
-    np_summary_reply sum = np_summary(archive, length);
-    np_part part = np_line(archive, length, 1);
+    switch (letter) {
+    case 'O': print_orbit(r->orbit); break;
+    case 'I': print_index(r->index); break;
+    case 'B': print_places(r->places); break;
+    case 'G': print_gap(r->gap); break;
+    case 'M': print_remade(r->remade); break;
+    case 'R': print_run(r->run); break;
+    case 'L': print_part(r->part); break;
+    case 'F': print_lookup(r->lookup); break;
+    case 'S': print_summary(r->summary); break;
+    default: print_value(r->value);
+    }
+}
+
+/* The archive is refused so by every call on it. */
+static void try_refused(const uint8_t *archive, size_t size, uint64_t refusal, uint64_t line)
+{
+    np_lookup_reply found = np_lookup(archive, size, 0);
+    np_summary_reply sum = np_summary(archive, size);
+    np_part part = np_line(archive, size, 1);
 
     if (found.refusal != refusal || found.line != line || found.found != 0 || found.position != 0)
         fail("a lookup in a long archive replies otherwise");
@@ -175,11 +268,11 @@ static void try_refused(const uint8_t *archive, size_t length, uint64_t refusal,
 }
 
 /* No vector is long enough for the refusal of an archive's length: so many bytes 0 are tried. */
-static void try_zeros(size_t length, uint64_t refusal, uint64_t line)
+static void try_zeros(size_t size, uint64_t refusal, uint64_t line)
 {
     static uint8_t archive[NP_ARCHIVE_MAX + 1];
 
-    try_refused(archive, length, refusal, line);
+    try_refused(archive, size, refusal, line);
 }
 
 /* Different lines that have NP_ARCHIVE_MAX bytes together. Line k, from 1 on, is 64,5,3,s,0,9 with
@@ -242,30 +335,40 @@ static void try_full_archives(void)
     try_refused(full, NP_ARCHIVE_MAX, NP_REFUSED_MALFORMED_LINE, 1999);
 }
 
+/* Lengths that are those of one line, of less and of one number with `more` added. */
+static void try_lengths(size_t more, uint64_t refusal, uint64_t line)
+{
+    static uint8_t buffer[(1 << 16) + 13];
+    static uint64_t values[(1 << 16) + 1];
+    np_run r = {{4, 5, 3, 1}, 0, 1 << 20};
+
+    memcpy(buffer, "4,5,3,1,0,16\n", 13);
+    try_refused(buffer, more + 13, refusal, line);
+    if (np_read_line(buffer, more + 13).refusal != NP_REFUSED_MALFORMED_LINE)
+        fail("a line is read with what stands behind it");
+    if (np_write_line(r, buffer, more + 5).refusal != 0)
+        fail("a long buffer is refused");
+    if (np_remake(r, 0, values, more + 1).value != more + 1)
+        fail("a long buffer is not filled");
+}
+
 int main(void)
 {
     int letter;
+    reply r, again;
 
     try_zeros(NP_ARCHIVE_MAX, NP_REFUSED_MALFORMED_LINE, 1);
     try_zeros(NP_ARCHIVE_MAX + 1, NP_REFUSED_ARCHIVE_TOO_LONG, 0);
     try_full_archives();
-    while ((letter = next_call()) != 0)
-        switch (letter) {
-        case 'E': print_value(np_element(generator(), numbers[4])); break;
-        case 'O': print_orbit(np_orbit(generator())); break;
-        case 'I': print_index(np_index(generator(), numbers[4])); break;
-        case 'B': print_places(np_index_places(generator(), numbers[4], numbers[5])); break;
-        case 'G': print_gap(np_gap(generator(), numbers[4], numbers[5])); break;
-        case 'P': print_value(np_predecessor(generator(), numbers[4])); break;
-        case 'C': print_value(np_customary_multiplier(numbers[0])); break;
-        case 'V': print_value(np_variety(run())); break;
-        case 'W': write_line(run(), numbers[6]); break;
-        case 'M': remake(run(), numbers[6], numbers[7]); break;
-        case 'R': print_run(np_read_line(bytes(0), (size_t)numbers[0])); break;
-        case 'L': print_part(np_line(bytes(1), (size_t)numbers[1], numbers[0])); break;
-        case 'F': print_lookup(np_lookup(bytes(1), (size_t)numbers[1], numbers[0])); break;
-        case 'S': print_summary(np_summary(bytes(0), (size_t)numbers[0])); break;
-        default: fail("no such call");
-        }
+    try_lengths(1 << 8, NP_REFUSED_MALFORMED_LINE, 2);
+    try_lengths(1 << 16, NP_REFUSED_ARCHIVE_TOO_LONG, 0);
+    while ((letter = next_call()) != 0) {
+        size_t size = answer_over(0xA5, letter, &r);
+
+        answer_over(0x5A, letter, &again);
+        if (memcmp(&r, &again, size) != 0)
+            fail("a reply that is not written whole");
+        print_reply(letter, &r);
+    }
     return 0;
 }

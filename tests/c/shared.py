@@ -1,9 +1,12 @@
-"""Calls the shared library through ctypes, with a struct by value, with a signed reply, and with bytes:
-shared.py LIBRARY"""
+"""Makes every call of the shared library through ctypes: shared.py LIBRARY
+
+tests/boundary.py compares the declarations with the proved code's."""
 
 import ctypes
+import mmap
 import sys
-from ctypes import c_int64, c_size_t, c_uint64
+import tempfile
+from ctypes import POINTER, c_char_p, c_int64, c_size_t, c_uint8, c_uint64
 
 
 def struct(*names, **more):
@@ -12,57 +15,101 @@ def struct(*names, **more):
 
 
 Generator = struct("width", "multiplier", "increment", "seed")
+Run = struct(generator=Generator, first=c_uint64, count=c_uint64)
 Value = struct("refusal", "value")
 OrbitReply = struct("refusal", "preperiod", "exponent", "period")
+IndexReply = struct("refusal", "found", "index")
 PlacesReply = struct("refusal", "found", "index", "recurs", "exponent")
 GapReply = struct("refusal", "found", steps=c_int64)
+RunReply = struct("refusal", run=Run)
 LookupReply = struct("refusal", "line", "found", "position")
-SummaryReply = struct("refusal", "line", "line_count", "total")
 Part = struct("start", "length")
+SummaryReply = struct("refusal", "line", "line_count", "total")
 
-library = ctypes.CDLL(sys.argv[1])
-library.np_element.argtypes = Generator, c_uint64
-library.np_element.restype = Value
-library.np_orbit.argtypes = (Generator,)
-library.np_orbit.restype = OrbitReply
-library.np_index_places.argtypes = Generator, c_uint64, c_uint64
-library.np_index_places.restype = PlacesReply
-library.np_gap.argtypes = Generator, c_uint64, c_uint64
-library.np_gap.restype = GapReply
-library.np_lookup.argtypes = ctypes.c_char_p, c_size_t, c_uint64
-library.np_lookup.restype = LookupReply
-library.np_summary.argtypes = ctypes.c_char_p, c_size_t
-library.np_summary.restype = SummaryReply
-library.np_line.argtypes = ctypes.c_char_p, c_size_t, c_uint64
-library.np_line.restype = Part
+# The result, and the parameters.
+CALLS = {
+    "np_element": (Value, Generator, c_uint64),
+    "np_orbit": (OrbitReply, Generator),
+    "np_index": (IndexReply, Generator, c_uint64),
+    "np_index_places": (PlacesReply, Generator, c_uint64, c_uint64),
+    "np_gap": (GapReply, Generator, c_uint64, c_uint64),
+    "np_predecessor": (Value, Generator, c_uint64),
+    "np_customary_multiplier": (Value, c_uint64),
+    "np_variety": (Value, Run),
+    "np_write_line": (Value, Run, POINTER(c_uint8), c_size_t),
+    "np_read_line": (RunReply, c_char_p, c_size_t),
+    "np_remake": (Value, Run, c_uint64, POINTER(c_uint64), c_size_t),
+    "np_line": (Part, c_char_p, c_size_t, c_uint64),
+    "np_lookup": (LookupReply, c_char_p, c_size_t, c_uint64),
+    "np_summary": (SummaryReply, c_char_p, c_size_t),
+}
 
-element = library.np_element(Generator(10, 371, 995, 73), 1000)
-prime_element = library.np_element(Generator(0, 16807, 0, 1), 2)
-orbit = library.np_orbit(Generator(10, 371, 995, 73))
-prime_orbit = library.np_orbit(Generator(0, 16807, 0, 1))
-places = library.np_index_places(Generator(10, 371, 995, 73), 9, 985 % 512)
-gap = library.np_gap(Generator(10, 371, 995, 73), 49, 985)
-archive = b"4,5,3,1,0,16\n10,371,995,73,100,8\n"
-found = library.np_lookup(archive, len(archive), 49)
-nothing = library.np_lookup(None, 0, 49)
-summary = library.np_summary(archive, len(archive))
-part = library.np_line(archive, len(archive), 2)
-twice = archive * 2
-found_twice = library.np_lookup(twice, len(twice), 49)
-summary_of_twice = library.np_summary(twice, len(twice))
-part_of_twice = library.np_line(twice, len(twice), 2)
 
-assert (element.refusal, element.value) == (0, 985)
-assert (prime_element.refusal, prime_element.value) == (0, 282475249)
-assert (orbit.refusal, orbit.preperiod, orbit.exponent, orbit.period) == (0, 0, 9, 0)
-assert (prime_orbit.refusal, prime_orbit.preperiod, prime_orbit.exponent, prime_orbit.period) == (0, 0, 0, 2147483646)
-assert (places.refusal, places.found, places.index, places.recurs, places.exponent) == (0, 1, 232, 1, 8)
-assert (gap.refusal, gap.found, gap.steps) == (0, 1, -124)
-assert (found.refusal, found.line, found.found, found.position) == (0, 2, 1, 0)
-assert (nothing.refusal, nothing.line, nothing.found, nothing.position) == (0, 0, 0, 0)
-assert (summary.refusal, summary.line, summary.line_count, summary.total) == (0, 0, 2, 24)
-assert (part.start, part.length) == (13, 20)
-for reply in (found_twice, summary_of_twice):
-    assert [getattr(reply, name) for name, _ in reply._fields_] == [11, 3, 0, 0]
-assert (part_of_twice.start, part_of_twice.length) == (0, 0)
-print("shared library: 13 calls from Python")
+def numbers(reply):
+    for name, _ in reply._fields_:
+        value = getattr(reply, name)
+        yield from numbers(value) if isinstance(value, ctypes.Structure) else (value,)
+
+
+def try_calls(library):
+    calls = set()
+
+    def call(name, *arguments):
+        """A reply of more than 16 bytes is also had in memory that is filled before: on x86-64 it is written where a
+        pointer in front of the arguments says."""
+        calls.add(name)
+        result, *parameters = CALLS[name]
+        reply = ctypes.CFUNCTYPE(result, *parameters)((name, library))(*arguments)
+        size = ctypes.sizeof(result)
+        if size > 16:
+            filled = result.from_buffer_copy(b"\xa5" * size)
+            ctypes.CFUNCTYPE(None, POINTER(result), *parameters)((name, library))(filled, *arguments)
+            assert bytes(filled) == bytes(reply)
+        return tuple(numbers(reply))
+
+    g, narrow, prime = Generator(10, 371, 995, 73), Generator(4, 5, 3, 1), Generator(0, 16807, 0, 1)
+    assert call("np_element", g, 1000) == (0, 985)
+    assert call("np_element", prime, 2) == (0, 282475249)
+    assert call("np_orbit", g) == (0, 0, 9, 0)
+    assert call("np_orbit", prime) == (0, 0, 0, 2147483646)
+    assert call("np_index", narrow, 6) == (0, 1, 15)
+    assert call("np_index_places", g, 9, 985 % 512) == (0, 1, 232, 1, 8)
+    assert call("np_gap", g, 49, 985) == (0, 1, -124)
+    assert call("np_predecessor", narrow, 8) == (0, 1)
+    assert call("np_customary_multiplier", 36) == (0, 30517578125)
+
+    line, run = b"4,5,3,1,0,16\n", Run(narrow, 0, 16)
+    buffer, values = (c_uint8 * 107)(), (c_uint64 * 3)()
+    assert call("np_variety", run) == (0, 16)
+    assert call("np_write_line", run, buffer, len(buffer)) == (0, len(line))
+    assert bytes(buffer) == line.ljust(len(buffer), b"\0")
+    assert call("np_read_line", line, len(line)) == (0, 4, 5, 3, 1, 0, 16)
+    assert call("np_remake", Run(g, 100, 8), 0, values, len(values)) == (0, 3)
+    assert list(values) == [49, 742, 821]
+
+    archive = line + b"10,371,995,73,100,8\n"
+    assert call("np_lookup", archive, len(archive), 49) == (0, 2, 1, 0)
+    assert call("np_lookup", None, 0, 49) == (0, 0, 0, 0)
+    assert call("np_summary", archive, len(archive)) == (0, 0, 2, 24)
+    assert call("np_line", archive, len(archive), 2) == (13, 20)
+    twice = archive * 2
+    assert call("np_lookup", twice, len(twice), 49) == call("np_summary", twice, len(twice)) == (11, 3, 0, 0)
+    assert call("np_line", twice, len(twice), 2) == (0, 0)
+
+    # Lengths of which 32 bits are those of a line, and of less: a file that takes no room but for its first bytes.
+    with tempfile.TemporaryFile() as file:
+        file.truncate(2**32 + len(line))
+        memory = mmap.mmap(file.fileno(), 0)
+        memory[: len(line)] = line
+        long, room = ((kind * len(memory)).from_buffer(memory) for kind in (ctypes.c_char, c_uint8))
+        assert call("np_lookup", long, len(long), 1) == call("np_summary", long, len(long)) == (1, 0, 0, 0)
+        assert call("np_line", long, len(long), 1) == (0, 0)
+        assert call("np_read_line", long, len(long)) == (2, 0, 0, 0, 0, 0, 0)
+        assert call("np_write_line", run, room, 2**32 + 5) == (0, len(line))
+
+    assert calls == set(CALLS)
+    print(f"shared library: {len(calls)} calls from Python")
+
+
+if __name__ == "__main__":
+    try_calls(ctypes.CDLL(sys.argv[1]))

@@ -950,10 +950,46 @@ def twin_calls():
     yield from random_twins()
 
 
+# For numbers of which 8, 16 or 32 bits are to be told from the whole.
+BEYOND = 2**8, 2**16, 2**32, 2**63
+
+
+def plain_calls():
+    """Each call, with small numbers: at a narrow width, where a larger one is mostly refused; at width 64, where it is
+    not; at width 0; and with a preperiod, where the variety depends on the first index."""
+    for g in ((4, 5, 3, 1), (64, 5, 3, 1), prime(1), (4, 2, 0, 1)):
+        yield "O", g
+        for code, numbers in (("E", (1,)), ("I", (1,)), ("B", (2, 1)), ("G", (1, 1)), ("P", (8,))):
+            yield code, (*g, *numbers)
+        yield "V", (*g, 0, 16)
+        yield "W", (*g, 0, 16, 120)
+        yield "M", (*g, 0, 3, 1, 5)
+    yield "C", (36,)
+    yield "L", (1, b"4,5,3,1,0,16\n")
+    yield "F", (5, b"4,5,3,1,0,16\n")
+
+
+def numbers_beyond():
+    """Each number of these calls with each of BEYOND added, if that makes another reply than the lower bits would; runs
+    also as lines. The last argument of some calls is no number, or how much is lent, for which there is little room."""
+    asked, told = set(), set()
+    for code, args in plain_calls():
+        for place, more in product(range(len(args) - (code in "LFWM")), BEYOND):
+            larger, lower = ((*args[:place], n, *args[place + 1 :]) for n in (args[place] + more, args[place] % more))
+            asked.add((code, place, more))
+            if REPLY[code](*larger) != REPLY[code](*lower):
+                told.add((code, place, more))
+                yield code, larger
+            if code == "V":
+                yield from (("R", (ref.line_of(larger),)), ("S", (ref.line_of(larger),)))
+    assert told == asked
+    yield "W", (4, 5, 3, 1, 0, 16, 256)
+
+
 def all_calls():
     refused = refused_generators, refused_runs, one_way, refused_archives
     accepted = long_sequences, wide_calls, printed_tables, valid_calls, reading_calls, archive_calls, remaking_calls
-    later = gap_calls, places_calls, variety_calls, prime_calls, summary_calls, twin_calls
+    later = gap_calls, places_calls, variety_calls, prime_calls, summary_calls, twin_calls, numbers_beyond
     parts = bounds, *refused, *accepted, *later
     return dict.fromkeys((code, tuple(args)) for part in parts for code, args in part())
 

@@ -13,7 +13,7 @@ use Rattle.refusals.proofs.Replies.{number-suc}
 use Rattle.runs.specs.declared.Run.{Run}
 use Rattle.lines.specs.Line.{lineOf}
 use Rattle.archive.specs.declared.Part.{Part}
-use Rattle.archive.specs.Archive.{linesOf, IsArchive, numbered}
+use Rattle.archive.specs.Archive.{linesOf, archiveOf, IsArchive, numbered}
 use Rattle.archive.specs.Check.{CheckReply, refusedAt, checkOf}
 use Rattle.archive.specs.Line.{lineAt, partFrom, partOf, LinePromise, PartPromise}
 use Rattle.archive.specs.Parts.{firstPart}
@@ -97,8 +97,48 @@ part-numbered bytes (suc n) =
     (subst (λ (bs : List ℕ). Holds bs (numbered [] (linesOf bytes) (suc n)) (partFrom (1 + n) 1 0 (linesOf bytes))) (lines-joined bytes)
     (part-from-holds n 1 0 (linesOf bytes) [] refl))
 
+-- line n's own place, behind the lines before it
+part-from-own : (k start : ℕ) (before : List Run) (run : Run) (after : List Run) →
+    partFrom (k + length before) k start (map lineOf (before ++ (run ∷ after)))
+    ≡ record { start = start + length (archiveOf before); length = length (lineOf run) }
+unfolding archiveOf
+part-from-own k start [] run after =
+    part-from-here (k + 0) k start (lineOf run) (map lineOf after) (omega arith)
+    ∙ ap {B = Part} (λ (s : ℕ). record { start = s; length = length (lineOf run) }) (omega arith)
+part-from-own k start (first ∷ before) run after =
+    let same : k + suc (length before) ≡ suc k + length before = omega arith in
+    let next : start + length (lineOf first) + length (archiveOf before) ≡ start + length (lineOf first ++ archiveOf before) =
+    simp length-append (omega arith) in
+    part-from-next (k + suc (length before)) k start (lineOf first) (map lineOf (before ++ (run ∷ after))) (λ q. omega arith)
+    ∙ ap (λ (n : ℕ). partFrom n (suc k) (start + length (lineOf first)) (map lineOf (before ++ (run ∷ after)))) same
+    ∙ part-from-own (suc k) (start + length (lineOf first)) before run after
+    ∙ ap {B = Part} (λ (s : ℕ). record { start = s; length = length (lineOf run) }) next
+
+part-own : (bytes : List ℕ) (n : ℕ) (before : List Run) (run : Run) (after : List Run) →
+    IsArchive bytes (before ++ (run ∷ after)) → n ≡ suc (length before) →
+    partOf bytes n ≡ record { start = length (archiveOf before); length = length (lineOf run) }
+unfolding partOf
+part-own bytes n before run after is e =
+    let z = check-accepts bytes .others _ is .0 in
+    let lines : linesOf bytes ≡ map lineOf (before ++ (run ∷ after)) = ap linesOf (is .lines) ∙ lines-archive _ in
+    let there : partOf bytes n ≡ partFrom n 1 0 (linesOf bytes) = rw (z, partOf) in
+    let number : n ≡ 1 + length before = omega (arith, e) in
+    there ∙ ap (partFrom n 1 0) lines
+    ∙ ap (λ (m : ℕ). partFrom m 1 0 (map lineOf (before ++ (run ∷ after)))) number
+    ∙ part-from-own 1 0 before run after
+    ∙ ap {B = Part} (λ (s : ℕ). record { start = s; length = length (lineOf run) }) (omega arith)
+
 part-promise : (bytes : List ℕ) (n : ℕ) → PartPromise bytes n (partOf bytes n)
-part-promise bytes n = record { equals = refl; inside = h .inside; meaning = h .is }
+part-promise bytes n =
+    record {
+      equals = refl;
+      inside = h .inside;
+      meaning = h .is;
+      own =
+          λ before run after is e.
+          let q = part-own bytes n before run after is e in
+          (ap (λ (p : Part). p .start) q, ap (λ (p : Part). p .length) q);
+    }
   where
     go : (r : ℕ) → checkOf bytes .refusal ≡ r → Holds bytes (lineAt bytes n) (partOf bytes n)
     go zero e = unfold lineAt partOf in rw (e, lineAt, partOf) (part-numbered bytes n)

@@ -1,14 +1,14 @@
 -- The call `line` (SCOPE 5.5): a part of the archive itself, the empty part if the archive is refused or has no such line.
 use mathlib.Core.Path.{_≡_}
 use mathlib.Core.Bool.{true, false}
-use mathlib.Core.List.{List, [], _∷_, map}
+use mathlib.Core.List.{List, [], _∷_, _++_, map}
 use Prim.Native.Nat.{ℕ, zero, suc, _+_, _≤_}
 use lib.Dec.{eqb}
 use lib.ListN.{length, take, drop}
 use Rattle.runs.specs.declared.Run.{Run}
 use Rattle.lines.specs.Line.{lineOf}
 use Rattle.archive.specs.declared.Part.{Part}
-use Rattle.archive.specs.Archive.{linesOf, IsArchive, numbered}
+use Rattle.archive.specs.Archive.{linesOf, archiveOf, IsArchive, numbered}
 use Rattle.archive.specs.Check.{checkOf}
 
 unfoldable pub lineAt : List ℕ → ℕ → List ℕ
@@ -38,3 +38,6 @@ pub record PartPromise (bytes : List ℕ) (n : ℕ) (part : Part) : Type 0 where
   pub equals : part ≡ partOf bytes n
   pub inside : part .start + part .length ≤ length bytes
   pub meaning : take (part .length) (drop (part .start) bytes) ≡ lineAt bytes n
+  pub own :
+      (before : List Run) (run : Run) (after : List Run) → IsArchive bytes (before ++ (run ∷ after)) → n ≡ suc (length before) →
+      (part .start ≡ length (archiveOf before)) × (part .length ≡ length (lineOf run))

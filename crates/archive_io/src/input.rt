@@ -1,10 +1,10 @@
 // Reading standard input and the archive. No contract can say which bytes a read brings, so these
-// functions only fill a buffer and tell how many bytes of it were read and what may follow them.
+// functions only fill a buffer and tell how many bytes of it were read and what may follow them. What
+// they tell is made of what the last read gave, and goes with it wherever it goes.
 ghost use mathlib.Core.Path.{_≡_};
-ghost use Prim.Native.Nat.{_≤_, _<_};
+ghost use Prim.Native.Nat.{_+_, _-_, _^_, _<_};
 ghost use lib.ListN.{length};
-ghost use Rattle.archive_io.specs.Input.{Filled, restAfter};
-ghost use Rattle.archive_io.specs.declared.input.Rest.the-variants.{Unknown};
+ghost use Rattle.archive_io.specs.Input.{After, Filled, GoesOn, readingAfter, restAfter};
 
 // What follows the bytes read: nothing, since the input ended; perhaps more; or the read failed.
 pub enum Rest {
@@ -19,74 +19,107 @@ pub struct Reading {
     pub rest: Rest,
 }
 
+// The last read: how many bytes stood in the buffer before it, what it gave, and the reading after it.
+pub struct LastRead {
+    pub before: usize,
+    pub got: isize,
+    pub reading: Reading,
+}
+
 // Reads standard input.
-pub fn read_input(buf: &mut [u8]) -> Reading
+pub fn read_input(buf: &mut [u8]) -> LastRead
+    requires { ⌜ 0 < length (now buf) ⌝ }
     ensures { λ r. ⌜ Filled (now (buf .exit)) r ⌝ }
 {
     read_to_end(libc::STDIN_FILENO, buf)
 }
 
 // Reads the archive.
-pub fn read_archive(buf: &mut [u8]) -> Reading
+pub fn read_archive(buf: &mut [u8]) -> LastRead
+    requires { ⌜ 0 < length (now buf) ⌝ }
     ensures { λ r. ⌜ Filled (now (buf .exit)) r ⌝ }
 {
     let fd = os::open_read(b"archive.csv");
     if fd < 0 {
-        return Reading {
-            n: 0,
-            rest: Rest::Failed,
-        };
+        return not_read(buf);
     }
-    let reading = read_to_end(fd, buf);
+    let last = read_to_end(fd, buf);
     libc::close(fd);
-    reading
+    last
+}
+
+// Nothing could be read into the buffer, or nothing was: as after a first read that failed.
+pub fn not_read(buf: &[u8]) -> LastRead
+    ensures { λ r. ⌜ Filled (now (buf .entry)) r ⌝ }
+{
+    LastRead {
+        before: 0,
+        got: -1,
+        reading: reading_after(0, -1, buf),
+    }
 }
 
 // Reads until the buffer is full, the input ends or a read fails. The input may come in pieces.
-fn read_to_end(fd: i32, buf: &mut [u8]) -> Reading
+fn read_to_end(fd: i32, buf: &mut [u8]) -> LastRead
+    requires { ⌜ 0 < length (now buf) ⌝ }
     ensures { λ r. ⌜ Filled (now (buf .exit)) r ⌝ }
 {
-    let mut n = 0;
-    while n < buf.len() {
+    let mut last = read_more(fd, buf, 0);
+    while goes_on(last.reading, buf.len()) {
+        let reading = last.reading;
+        let n = reading.n;
         let next = read_more(fd, buf, n);
-        let rest = next.rest;
-        match rest {
-            Rest::Unknown => {
-                n = next.n;
-            }
-            Rest::Nothing => return next,
-            Rest::Failed => return next,
-        }
+        last = next;
     }
-    Reading {
-        n,
-        rest: Rest::Unknown,
+    last
+}
+
+// Whether to read on: something may follow, and there is room for it.
+fn goes_on(reading: Reading, size: usize) -> bool
+    ensures { λ r. ⌜ GoesOn size reading r ⌝ }
+{
+    let rest = reading.rest;
+    match rest {
+        Rest::Nothing => false,
+        Rest::Unknown => reading.n < size,
+        Rest::Failed => false,
     }
 }
 
-// One read behind the first `n` bytes. A read that a signal interrupts would count as failed, but
+// One read behind the first bytes of the buffer. A read that a signal interrupts would count as failed, but
 // the program handles no signal, so none is interrupted.
-fn read_more(fd: i32, buf: &mut [u8], n: usize) -> Reading
-    requires { ⌜ n < length (now buf) ⌝ }
-    ensures { λ r. ⌜ (n ≤ r .n) × (r .n ≤ length (now (buf .exit))) × (r .rest ≡ Unknown → n < r .n) ⌝ }
+fn read_more(fd: i32, buf: &mut [u8], before: usize) -> LastRead
+    requires { ⌜ before < length (now buf) ⌝ }
+    ensures { λ r. ⌜ (r .before ≡ before) × After (now (buf .exit)) r ⌝ }
 {
-    let got = libc::read(fd, &mut buf[n..]);
-    let more = io::count(got, &buf[n..]);
-    Reading {
-        n: n + more,
-        rest: rest_after(got < 0, more),
+    let got = libc::read(fd, &mut buf[before..]);
+    LastRead {
+        before,
+        got,
+        reading: reading_after(before, got, &buf[before..]),
     }
 }
 
-// What follows a read of so many bytes: it brings none only at the end of the input.
-fn rest_after(failed: bool, more: usize) -> Rest
-    ensures { λ r. ⌜ r ≡ restAfter failed more ⌝ }
+// The reading after a read that gave so much, behind so many bytes and into this room.
+fn reading_after(before: usize, got: isize, room: &[u8]) -> Reading
+    requires { ⌜ before + length (now room) < 2 ^ 64 ⌝ }
+    ensures { λ r. ⌜ r ≡ readingAfter before got (length (now (room .entry))) ⌝ }
 {
-    if failed {
+    let rest = rest_after(got);
+    let more = io::count(got, room);
+    let n = before + more;
+    Reading { n, rest }
+}
+
+// What follows the bytes read, by what the last read gave.
+fn rest_after(got: isize) -> Rest
+    ensures { λ r. ⌜ r ≡ restAfter got ⌝ }
+{
+    if got < 0 {
         return Rest::Failed;
     }
-    if more == 0 {
-        return Rest::Nothing;
+    if got > 0 {
+        return Rest::Unknown;
     }
-    Rest::Unknown
+    Rest::Nothing
 }

@@ -107,8 +107,8 @@ pub is-line : {bytes : List ℕ} (n : ℕ) → isLine n bytes ≡ true → Line 
 unfolding isLine
 is-line {bytes} n e =
     let vs = numbersFrom 0 bytes in
-    let p = both (eqb (length vs) n) (allBelow (2 ^ 64) vs && sameBytes (fieldsLine vs) bytes) e in
-    let q = both (allBelow (2 ^ 64) vs) (sameBytes (fieldsLine vs) bytes) (p .1) in
+    let p = both _ _ e in
+    let q = both _ _ (p .1) in
     record {
       count = eqb-true (length vs) n (p .0);
       small = below-test (2 ^ 64) vs (q .0);

@@ -57,11 +57,11 @@ pub fn write(buf: &mut [u8], numbers: &[u64]) -> usize
     ensures { λ r. ⌜ FrontWritten (fieldsLine (now (numbers .entry))) (now (buf .entry)) (now (buf .exit)) r ⌝ }
 {
     let mut at = 0;
-    let mut k = 0;
-    while k < numbers.len() {
-        let delimiter = delimiter_before(numbers.len() - k - 1);
-        at = write_field(buf, at, numbers[k], delimiter);
-        k += 1;
+    let mut written = 0;
+    while written < numbers.len() {
+        let delimiter = delimiter_before(numbers.len() - written - 1);
+        at = write_field(buf, at, numbers[written], delimiter);
+        written += 1;
     }
     at
 }

@@ -67,44 +67,44 @@ passing-start g m y e =
 
 module _ {g : Generator} {m y x i : ℕ}
     (pre : (Linear g) × (g .multiplier % 2 ≡ 0) × (1 ≤ m) × (m ≤ g .width)) (p : Passing g m y x i) where
-  rest : (t : ℕ) × ((t ≤ m) × IsOrbit (low m (element g)) t 1)
-  rest = low-rest m (pre .3) (contracting (pre .0) (pre .1))
+  passing-rest : (t : ℕ) × ((t ≤ m) × IsOrbit (low m (element g)) t 1)
+  passing-rest = low-rest m (pre .3) (contracting (pre .0) (pre .1))
 
-  follows : Follows (low m (element g))
-  follows = contracting-follows m (pre .3) (contracting (pre .0) (pre .1))
+  passing-follows : Follows (low m (element g))
+  passing-follows = contracting-follows m (pre .3) (contracting (pre .0) (pre .1))
 
-  room : m < modulus g
-  room = lt-of-lt-of-le (lt-two-pow m) (places-room (pre .0) (pre .3))
+  passing-room : m < modulus g
+  passing-room = lt-of-lt-of-le (lt-two-pow m) (places-room (pre .0) (pre .3))
 
-  rest-room : rest .0 < modulus g
-  rest-room = lt-of-le-of-lt (rest .1 .0) room
+  passing-rest-room : passing-rest .0 < modulus g
+  passing-rest-room = lt-of-le-of-lt (passing-rest .1 .0) passing-room
 
   pub passing-never : m < i → Absent (low m (element g)) y
   passing-never l =
-      record { none = orbit-never follows (rest .1 .1) (λ j b. p .passed j (omega (arith, rest .1 .0))) }
+      record { none = orbit-never passing-follows (passing-rest .1 .1) (λ j b. p .passed j (omega (arith, passing-rest .1 .0))) }
 
   module _ {after : ℕ} (l : i ≤ m) (e : after ≡ (g .multiplier * x + g .increment) % 2 ^ m) where
-    after-held : after ≡ low m (element g) (suc i)
-    after-held = low-step i (pre .0) (pre .3) (p .held) e
+    passing-after : after ≡ low m (element g) (suc i)
+    passing-after = low-step i (pre .0) (pre .3) (p .held) e
 
-    found : x ≡ y → Located (low m (element g)) y (modulus g) i
-    found q =
+    passing-found : x ≡ y → Located (low m (element g)) y (modulus g) i
+    passing-found q =
         record {
-          below = lt-of-le-of-lt l room;
+          below = lt-of-le-of-lt l passing-room;
           yields = sym (p .held) ∙ q;
           first = λ j h. elim (decLe i j) [ yes b ↦ b | no f ↦ absurd (p .passed j (lt-of-not-le f) h) ];
         }
 
     pub passing-stays : x ≡ y → after ≡ y → IndicesAre (low m (element g)) y (modulus g) (Every i 0)
-    passing-stays q a = stays-recurring (rest .1 .1) rest-room (found q) (sym after-held ∙ a)
+    passing-stays q a = stays-recurring (passing-rest .1 .1) passing-rest-room (passing-found q) (sym passing-after ∙ a)
 
     pub passing-moves : x ≡ y → (after ≡ y → ⊥) → IndicesAre (low m (element g)) y (modulus g) (Once i)
-    passing-moves q d = moves-alone (rest .1 .1) rest-room (found q) follows (λ h. d (after-held ∙ h))
+    passing-moves q d = moves-alone (passing-rest .1 .1) passing-rest-room (passing-found q) passing-follows (λ h. d (passing-after ∙ h))
 
     pub passing-next : (x ≡ y → ⊥) → Passing g m y after (i + 1)
     passing-next d =
         record {
           within = omega arith;
-          held = after-held ∙ ap (low m (element g)) (sym (add-one i));
+          held = passing-after ∙ ap (low m (element g)) (sym (add-one i));
           passed = below-more _ _ (p .passed) (λ q. d (p .held ∙ q));
         }

@@ -95,6 +95,16 @@ own-run run = ap runOf (numbers-line (numbersOf run))
 pub own-accepted : (run : Run) → runRefusal run ≡ 0 → readOf (lineOf run) .refusal ≡ 0
 own-accepted run z = ap (λ (r : RunReply). r .refusal) (read-of (own-line run z)) ∙ reply-refusal _ run ∙ z
 
+-- what is refused with another number than 2 is a line, and the number is its run's
+refused-line : (bytes : List ℕ) → (readOf bytes .refusal ≡ 0 → ⊥) → (readOf bytes .refusal ≡ 2 → ⊥) →
+    (run : Run) × (IsLine bytes run × (runRefusal run ≡ readOf bytes .refusal))
+refused-line bytes some other = go (isLine 6 bytes) refl
+  where
+    go : (t : Bool) → isLine 6 bytes ≡ t → (run : Run) × (IsLine bytes run × (runRefusal run ≡ readOf bytes .refusal))
+    go true t =
+        (runIn bytes, (in-line t, sym (ap (λ (r : RunReply). r .refusal) (read-lines bytes t) ∙ reply-refusal _ (runIn bytes))))
+    go false t = absurd (other (ap (λ (r : RunReply). r .refusal) (read-others bytes t)))
+
 read-kept : (bytes : List ℕ) → ReadPromise bytes (readOf bytes)
 read-kept bytes =
     record {
@@ -103,6 +113,7 @@ read-kept bytes =
       of-others = λ f. read-others bytes (no-test (isLine 6 bytes) (λ t. f (runIn bytes) (in-line t)));
       accepted = λ z.
           subst (IsLine bytes) (sym (accepted-run bytes z)) (accepted-line bytes z .1);
+      refused = refused-line bytes;
     }
 
 read-promise : {bytes : List ℕ} {reply : RunReply} → reply ≡ readOf bytes → ReadPromise bytes reply

@@ -31,6 +31,10 @@ reply-refusal : (n v : ℕ) → valueReply n v .refusal ≡ n
 reply-refusal zero v = refl
 reply-refusal (suc n) v = refl
 
+run-refusal : (n : ℕ) (run : Run) → runReply n run .refusal ≡ n
+run-refusal zero run = refl
+run-refusal (suc n) run = refl
+
 reply-value : {n : ℕ} (v : ℕ) → n ≡ 0 → valueReply n v .value ≡ v
 reply-value v e = rw e
 
@@ -61,15 +65,30 @@ written-reads {run} w z r =
     r .of-line run (record { words = valid-words (valid-run run (written-run w z)); line = written-line w z })
     ∙ ap (λ (n : ℕ). runReply n run) (written-run w z)
 
--- an accepted line is the one that the writer makes of the run read, whatever the buffer held before
+-- an accepted line is the one that the writer makes of the run read, whatever the buffer held before; and every buffer that
+-- is at least as long as the line is accepted
 read-writes :
     {bytes before after : List ℕ} {wrote : ValueReply} {reads : RunReply} →
     ReadPromise bytes reads →
     reads .refusal ≡ 0 →
     WritePromise (reads .run) before after wrote →
-    wrote .refusal ≡ 0 →
-    take (wrote .value) after ≡ bytes
-read-writes r z w y = written-line w y ∙ sym (r .accepted z .line)
+    length bytes ≤ length before →
+    (wrote .refusal ≡ 0) × (take (wrote .value) after ≡ bytes)
+unfolding writeRefusal
+read-writes {bytes} {before} {wrote = wrote} {reads} r z w l = (fits, written-line w fits ∙ sym line)
+  where
+    line : bytes ≡ lineOf (reads .run)
+    line = r .accepted z .line
+
+    accepted-run : runRefusal (reads .run) ≡ 0
+    accepted-run =
+        sym (ap (λ (p : RunReply). p .refusal) (r .of-line (reads .run) (r .accepted z)) ∙ run-refusal _ (reads .run)) ∙ z
+
+    none : writeRefusal (reads .run) before ≡ 0
+    none = rw (accepted-run, le-ltb (length before) (length (lineOf (reads .run))) (omega (arith, ap length line)))
+
+    fits : wrote .refusal ≡ 0
+    fits = ap (λ (p : ValueReply). p .refusal) (w .equals) ∙ reply-refusal _ _ ∙ none
 
 -- For a client that has a buffer of 107 bytes: it is refused only what the run is refused, and gets the run back.
 pub write-as : {run : Run} {before after : List ℕ} {a : ValueAnswer} (b : ValueAnswer) → a ≡ b →

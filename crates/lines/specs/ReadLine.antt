@@ -43,9 +43,12 @@ pub record IsLine (bytes : List ℕ) (run : Run) : Type 0 where
   pub line : bytes ≡ lineOf run
 
 -- The promise of the call. What it means: bytes that are a line give its run, or 3 to 5; any others give 2; and an accepted
--- line is the one of the run given.
+-- line is the one of the run given; and 3 to 5 are those of the run whose line the bytes are.
 pub record ReadPromise (bytes : List ℕ) (reply : RunReply) : Type 0 where
   pub equals : reply ≡ readOf bytes
   pub of-line : (run : Run) → IsLine bytes run → reply ≡ runReply (runRefusal run) run
   pub of-others : ((run : Run) → IsLine bytes run → ⊥) → reply ≡ refusedRun 2
   pub accepted : reply .refusal ≡ 0 → IsLine bytes (reply .run)
+  pub refused :
+      (reply .refusal ≡ 0 → ⊥) → (reply .refusal ≡ 2 → ⊥) →
+      (run : Run) × (IsLine bytes run × (runRefusal run ≡ reply .refusal))

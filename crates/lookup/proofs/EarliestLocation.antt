@@ -151,6 +151,7 @@ lookup-demand runs y = ⊎-elim some none (outcome 0 runs y)
         let e : 0 + suc (o .line) ≡ suc (o .line) = omega arith in
         rw (o .reply, e)
         (record {
+          answer = inl refl;
           location-shows = λ f. o .here;
           others-later = λ f. o .later;
           none = (λ f. absurd (omega arith), λ nowhere. absurd (nowhere (suc (o .line)) (o .position) (o .here)));
@@ -160,6 +161,7 @@ lookup-demand runs y = ⊎-elim some none (outcome 0 runs y)
     none o =
         rw (o .reply)
         (record {
+          answer = inr refl;
           location-shows = λ f. absurd (omega arith);
           others-later = λ f. absurd (omega arith);
           none = (λ f. o .nowhere, λ nowhere. refl);

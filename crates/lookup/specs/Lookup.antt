@@ -63,9 +63,11 @@ pub record Shows (runs : List Run) (line p y : ℕ) : Type 0 where
 abbrev pub Later : ℕ → ℕ → ℕ → ℕ → Type 0
 Later line p line₀ p₀ = (line₀ < line) ⊎ ((line ≡ line₀) × (p₀ < p))
 
--- Demand 3 of the lookup, in its own words: the location given shows the number; every other location in the archive that
+-- Demand 3 of the lookup, in its own words: the answer is a location, found is 1, or none, found is 0; the location given
+-- shows the number; every other location in the archive that
 -- shows it comes later; none comes exactly when no position of any run in the archive shows it.
 pub record EarliestLocation (runs : List Run) (y : ℕ) (reply : LookupReply) : Type 0 where
+  pub answer : (reply .found ≡ 1) ⊎ (reply .found ≡ 0)
   pub location-shows : reply .found ≡ 1 → Shows runs (reply .line) (reply .position) y
   pub others-later :
       reply .found ≡ 1 →

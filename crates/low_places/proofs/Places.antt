@@ -95,11 +95,8 @@ module _ (g : Generator) (m y : ℕ) (z : placesRefusal g m ≡ 0) where
   pub places-every : {k last e : ℕ} → Recurring (low m (element g)) y (modulus g) k (suc last) → e ≡ exponentOf (suc last) →
       PlacesPromise g m y (plainPlaces (answer.Every k e))
   places-every {k} {last} {e} r h =
-      let between = recurring-return r (low-follows g m given) in
-      let found = lt-ltb k (modulus g) (r .located .below) in
-      let again = lt-ltb last (modulus g) (omega (arith, r .room)) in
       record {
-        equals = rw (z, located-is (r .located), between, less-one, found, again, h);
+        equals = ap (everyReply k) h ∙ sym defined;
         meaning = λ q. rw whole (recurring-all r (low-follows g m given));
         goes-on =
             λ f.
@@ -117,6 +114,18 @@ module _ (g : Generator) (m y : ℕ) (z : placesRefusal g m ≡ 0) where
     where
       less-one : suc last - 1 ≡ last
       less-one = omega arith
+
+      between : returnLessOne (low m (element g)) (modulus g) k ≡ suc last - 1
+      between = recurring-return r (low-follows g m given)
+
+      defined :
+          placesReply (placesRefusal g m) (modulus g) (indexOf (low m (element g)) (modulus g) y)
+          (returnLessOne (low m (element g)) (modulus g) (indexOf (low m (element g)) (modulus g) y))
+          ≡ everyReply k (exponentOf (suc last))
+      defined =
+          let found = lt-ltb k (modulus g) (r .located .below) in
+          let again = lt-ltb last (modulus g) (omega (arith, r .room)) in
+          rw (z, located-is (r .located), between, less-one, found, again)
 
       power : (p : IsPower (suc last)) × (p .exponent ≤ m)
       power = low-power g m given (r .orbit)

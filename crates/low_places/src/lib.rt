@@ -9,7 +9,6 @@ use orbits::exponent::exponent_of;
 use orbits::kinds::low_indices_of;
 use refusals::Check;
 use refusals::Refusal;
-use refusals::or_else;
 use sequences::Indices;
 
 pub mod plain;
@@ -44,13 +43,15 @@ fn range_checked(g: Generator, places: u64) -> Check
     Check::Accepted
 }
 
-// The conditions of the places call.
+// The conditions of the places call: the range is looked at only where the generator is accepted.
 fn places_checked(g: Generator, places: u64) -> Check
     ensures { λ r. ⌜ checkNumber r ≡ placesRefusal g places ⌝ }
 {
     let general = checked(g);
-    let range = range_checked(g, places);
-    or_else(general, range)
+    if let Check::Refused(_) = general {
+        return general;
+    }
+    range_checked(g, places)
 }
 
 // The least index at which the element's lowest places are `value`, and at which others they are: none, or those every

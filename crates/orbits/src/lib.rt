@@ -9,11 +9,11 @@ use generator::checked;
 use generator::kind_of;
 use refusals::Check;
 use refusals::Refusal;
-use sequences::Indices;
 use sequences::Orbit;
 
 pub mod exponent;
 pub mod kinds;
+pub mod linear;
 pub mod plain;
 pub mod prime;
 
@@ -70,7 +70,8 @@ pub fn orbit(g: Generator) -> OrbitAnswer
     }
 }
 
-// The least index that yields `value`, or never.
+// The least index that yields `value`, or never. It has a search for each kind, and not the one of `kinds` for both: that would
+// be too long to be compiled into the call.
 pub fn index(g: Generator, value: u64) -> IndexAnswer
     ensures { λ r. ⌜ IndexPromise g value (plainIndex r) ⌝ }
 {
@@ -78,10 +79,9 @@ pub fn index(g: Generator, value: u64) -> IndexAnswer
     if let Check::Refused(refusal) = verdict {
         return IndexAnswer::Refused(refusal);
     }
-    let found = kinds::indices_of(g, value);
-    match found {
-        Indices::Once(index) => IndexAnswer::At(index),
-        Indices::Every { index, last: _ } => IndexAnswer::At(index),
-        Indices::Never => IndexAnswer::Never,
+    let kind = kind_of(g);
+    match kind {
+        Kind::Linear => linear::index(g, value),
+        Kind::Prime => prime::index(g, value),
     }
 }

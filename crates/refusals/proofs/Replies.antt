@@ -1,7 +1,9 @@
 -- What an answer says, where a check accepts and where it refuses.
-use mathlib.Core.Path.{_≡_, refl, sym, ap, _∙_}
-use Prim.Native.Nat.{ℕ, suc}
+use mathlib.Core.Path.{_≡_, sym, ap, subst, _∙_}
+use mathlib.Core.Bool.{not}
+use Prim.Native.Nat.{ℕ, suc, _-_}
 use native.Mathlib.Omega.{arith}
+use lib.Dec.{T, eqb}
 use Rattle.refusals.specs.declared.Refusal.{Refusal}
 use Rattle.refusals.specs.declared.Refusal.the-variants as refusal
 use Rattle.refusals.specs.declared.Check.{Check}
@@ -18,21 +20,24 @@ pub number-refused : {r : Check} {x : Refusal} {n : ℕ} → checkNumber r ≡ n
 number-refused e f = sym (ap checkNumber f) ∙ e
 
 -- a refusal's number is not 0
-pub number-suc : (x : Refusal) → (k : ℕ) × (numberOf x ≡ suc k)
-number-suc refusal.ArchiveTooLong = (0, refl)
-number-suc refusal.MalformedLine = (1, refl)
-number-suc refusal.WidthOutOfRange = (2, refl)
-number-suc refusal.OperandOutOfRange = (3, refl)
-number-suc refusal.RunOutOfRange = (4, refl)
-number-suc refusal.ValueOutOfRange = (5, refl)
-number-suc refusal.NotInvertible = (6, refl)
-number-suc refusal.BufferTooShort = (7, refl)
-number-suc refusal.PlacesOutOfRange = (8, refl)
-number-suc refusal.TotalOverflow = (9, refl)
-number-suc refusal.DuplicateLine = (10, refl)
+some-number : (x : Refusal) → T (not (eqb (numberOf x) 0))
+some-number refusal.ArchiveTooLong = tt
+some-number refusal.MalformedLine = tt
+some-number refusal.WidthOutOfRange = tt
+some-number refusal.OperandOutOfRange = tt
+some-number refusal.RunOutOfRange = tt
+some-number refusal.ValueOutOfRange = tt
+some-number refusal.NotInvertible = tt
+some-number refusal.BufferTooShort = tt
+some-number refusal.PlacesOutOfRange = tt
+some-number refusal.TotalOverflow = tt
+some-number refusal.DuplicateLine = tt
 
 pub number-nonzero : (x : Refusal) → numberOf x ≡ 0 → ⊥
-number-nonzero x e = let k = number-suc x in omega (arith, k .1)
+number-nonzero x e = subst (λ (n : ℕ). T (not (eqb n 0))) e (some-number x)
+
+pub number-suc : (x : Refusal) → (k : ℕ) × (numberOf x ≡ suc k)
+number-suc x = (numberOf x - 1, omega (arith, number-nonzero x))
 
 -- what is checked after a refusal changes nothing
 pub refused-else : (x : Refusal) {n : ℕ} (m : ℕ) → numberOf x ≡ n → numberOf x ≡ orElse n m

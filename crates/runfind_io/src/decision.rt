@@ -2,13 +2,14 @@
 ghost use Prim.Native.Nat.{_≤_};
 ghost use lib.ListN.{length, take};
 ghost use Rattle.archive_io.specs.Decision.{Answered, Asked, Decided};
-ghost use Rattle.archive_io.specs.Input.{Enough};
+ghost use Rattle.archive_io.specs.Input.{Filled};
 ghost use Rattle.runfind_io.specs.Decision.{askedOf, outcomeFor};
 ghost use Rattle.runfind_io.specs.declared.decision.Question.the-variants.{Malformed, Number};
 use crate::answer::answer;
 use crate::output::Outcome;
-use archive_io::input::Reading;
+use archive_io::input::LastRead;
 use archive_io::input::Rest;
+use archive_io::input::not_read;
 use archive_io::input::read_archive;
 use archive_io::notice::Notice;
 use archive_io::question::ask;
@@ -22,16 +23,17 @@ pub enum Question {
 // What is to be printed, and what was read of the file, which the promise of `respond` speaks of.
 pub struct Response {
     pub outcome: Outcome,
-    pub archive: Reading,
+    pub archive: LastRead,
 }
 
 // The question that standard input holds: one field. It has at most 21 bytes, so 22 show that it is none.
-pub fn asked(input: &[u8], rest: Rest) -> Question
-    requires { ⌜ Enough 22 (length (now input)) rest ⌝ }
-    ensures { λ r. ⌜ Asked askedOf (now (input .entry)) rest r ⌝ }
+pub fn asked(input: &[u8], last: LastRead) -> Question
+    requires { ⌜ 22 ≤ length (now input) ⌝ }
+    requires { ⌜ Filled (now input) last ⌝ }
+    ensures { λ r. ⌜ Asked askedOf (take (last .reading .n) (now (input .entry))) (last .reading .rest) r ⌝ }
 {
     let mut numbers = [0u64; 1];
-    if !ask(input, rest, &mut numbers) {
+    if !ask(input, last, &mut numbers) {
         return Question::Malformed;
     }
     Question::Number(numbers[0])
@@ -39,35 +41,36 @@ pub fn asked(input: &[u8], rest: Rest) -> Question
 
 // The outcome for a question, by the bytes read of the file. An archive has at most 65,536 bytes, so 65,537 show that it is
 // too long.
-pub fn decide(value: u64, archive: &[u8], rest: Rest) -> Outcome
-    requires { ⌜ Enough 65537 (length (now archive)) rest ⌝ }
-    ensures { λ r. ⌜ Decided (outcomeFor (Number value)) (now (archive .entry)) rest r ⌝ }
+pub fn decide(value: u64, archive: &[u8], last: LastRead) -> Outcome
+    requires { ⌜ 65537 ≤ length (now archive) ⌝ }
+    requires { ⌜ Filled (now archive) last ⌝ }
+    ensures { λ r. ⌜ Decided (outcomeFor (Number value)) (take (last .reading .n) (now (archive .entry))) (last .reading .rest) r ⌝ }
 {
+    let reading = last.reading;
+    let n = reading.n;
+    let rest = reading.rest;
     match rest {
-        Rest::Nothing => answer(archive, value),
-        Rest::Unknown => answer(archive, value),
+        Rest::Nothing => answer(&archive[..n], value),
+        Rest::Unknown => answer(&archive[..n], value),
         Rest::Failed => Outcome::Told(Notice::Unread),
     }
 }
 
 // The outcome for what was read of standard input. The file is opened, and read into `bytes`, only if there is a question.
-pub fn respond(input: &[u8], input_rest: Rest, bytes: &mut [u8]) -> Response
-    requires { ⌜ Enough 22 (length (now input)) «input_rest» ⌝ }
+pub fn respond(input: &[u8], last: LastRead, bytes: &mut [u8]) -> Response
+    requires { ⌜ 22 ≤ length (now input) ⌝ }
+    requires { ⌜ Filled (now input) last ⌝ }
     requires { ⌜ 65537 ≤ length (now bytes) ⌝ }
-    ensures { λ r. ⌜ Answered askedOf Malformed outcomeFor (now (input .entry)) «input_rest» (take (r .archive .n) (now (bytes .exit))) (r .archive .rest) (r .outcome) ⌝ }
+    ensures { λ r. ⌜ Answered askedOf Malformed outcomeFor (take (last .reading .n) (now (input .entry))) (last .reading .rest) (take (r .archive .reading .n) (now (bytes .exit))) (r .archive .reading .rest) (r .outcome) ⌝ }
+    ensures { λ r. ⌜ Filled (now (bytes .exit)) (r .archive) ⌝ }
 {
-    let Question::Number(value) = asked(input, input_rest) else {
+    let Question::Number(value) = asked(input, last) else {
         return Response {
             outcome: Outcome::Told(Notice::BadQuestion),
-            archive: Reading {
-                n: 0,
-                rest: Rest::Failed,
-            },
+            archive: not_read(bytes),
         };
     };
     let archive = read_archive(bytes);
-    let n = archive.n;
-    let archive_rest = archive.rest;
-    let outcome = decide(value, &bytes[..n], archive_rest);
+    let outcome = decide(value, bytes, archive);
     Response { outcome, archive }
 }

@@ -5,11 +5,9 @@ use runshow_io::output::print_outcome;
 
 fn main() {
     let mut input = [0u8; 64];
-    let reading = read_input(&mut input);
-    let n = reading.n;
-    let rest = reading.rest;
+    let last = read_input(&mut input);
     let mut bytes = [0u8; 65537];
-    let response = respond(&input[..n], rest, &mut bytes);
+    let response = respond(&input, last, &mut bytes);
     let outcome = response.outcome;
     print_outcome(outcome);
 }

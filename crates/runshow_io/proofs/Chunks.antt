@@ -1,22 +1,25 @@
--- What remaking and writing a chunk shows.
-use mathlib.Core.Path.{_≡_, refl, sym, ap, _∙_}
-use mathlib.Core.List.{List, _∷_, _++_}
-use Prim.Native.Nat.{ℕ, zero, suc, _+_, _*_, _^_, _≤_, _<_, min}
+-- What remaking and writing a chunk shows, and that chunk after chunk the numbers of a part are written: positions one after the
+-- other show what they show in pieces, and each number is a line of its own.
+use mathlib.Core.Path.{_≡_, refl, sym, ap, _∙_, subst}
+use mathlib.Core.Bool.{true, false}
+use mathlib.Core.List.{List, [], _∷_, _++_, append-assoc}
+use Prim.Native.Nat.{ℕ, zero, suc, _+_, _-_, _*_, _^_, _≤_, _<_, min}
 use native.Mathlib.Omega.{arith}
 use lib.ListN.{length, getD, take, drop, length-append, length-drop, length-take}
-use lib.Seq.{take-append-le, getD-take}
+use lib.Seq.{take-append-le, take-append-seam, getD-take}
 use Rattle.refusals.specs.declared.Refusal.{Refusal}
 use Rattle.refusals.specs.declared.ValueAnswer.{ValueAnswer}
 use Rattle.refusals.specs.declared.ValueAnswer.the-variants.{Value, Refused}
 use Rattle.refusals.specs.declared.ValueReply.{ValueReply}
 use Rattle.refusals.specs.Replies.{plainValue, valueReply}
 use Rattle.refusals.proofs.Replies.{number-suc}
+use Rattle.fields.specs.Line.{fieldsLine}
 use Rattle.fields.specs.Codec.{FrontWritten}
 use Rattle.runs.specs.declared.Run.{Run}
 use Rattle.runs.specs.Run.{shows, runRefusal}
 use Rattle.remake.specs.Remake.{shownFrom, remadeCount, RemakePromise}
 use Rattle.runs.proofs.Runs.{valid-run}
-use Rattle.runshow_io.specs.Output.{numbersLines, dueOf, ChunkPromise}
+use Rattle.runshow_io.specs.Output.{numbersLines, textFrom, dueOf, partDue, ChunkPromise, ShownPromise}
 use Rattle.runshow_io.specs.declared.output.Chunk.{Chunk}
 use Rattle.runshow_io.proofs.Writing.{numbers-short}
 
@@ -33,22 +36,74 @@ shown-take run p (suc m) zero l = absurd (omega arith)
 shown-take run p (suc m) (suc n) l =
     ap (λ (vs : List ℕ). shows run p ∷ vs) (shown-take run (suc p) m n (omega arith))
 
+-- neighbouring positions
+shown-join : (run : Run) (p m n : ℕ) → shownFrom run p (m + n) ≡ shownFrom run p m ++ shownFrom run (p + m) n
+unfolding shownFrom
+shown-join run p zero n =
+    let none : 0 + n ≡ n = omega arith in
+    let same : p ≡ p + 0 = omega arith in
+    ap (shownFrom run p) none ∙ ap (λ (q : ℕ). shownFrom run q n) same
+shown-join run p (suc m) n =
+    let one : suc m + n ≡ suc (m + n) = omega arith in
+    let same : suc p + m ≡ p + suc m = omega arith in
+    ap (shownFrom run p) one
+    ∙ ap (λ (vs : List ℕ). shows run p ∷ vs)
+    (shown-join run (suc p) m n ∙ ap (λ (q : ℕ). shownFrom run (suc p) m ++ shownFrom run q n) same)
+
+lines-join : (vs ws : List ℕ) → numbersLines (vs ++ ws) ≡ numbersLines vs ++ numbersLines ws
+unfolding numbersLines
+lines-join [] ws = refl
+lines-join (v ∷ vs) ws =
+    ap (λ (bytes : List ℕ). fieldsLine (v ∷ []) ++ bytes) (lines-join vs ws)
+    ∙ sym (append-assoc (fieldsLine (v ∷ [])) (numbersLines vs) (numbersLines ws))
+
+text-join : (run : Run) (p m n : ℕ) → textFrom run p (m + n) ≡ textFrom run p m ++ textFrom run (p + m) n
+text-join run p m n = ap numbersLines (shown-join run p m n) ∙ lines-join (shownFrom run p m) (shownFrom run (p + m) n)
+
+-- the chunk's bytes are the front of the buffer
+joined-front : (run : Run) (first shown made : ℕ) {bytes : ℕ} {before after : List ℕ} →
+    FrontWritten (textFrom run (first + shown) made) before after bytes →
+    textFrom run first shown ++ take bytes after ≡ textFrom run first (shown + made)
+joined-front run first shown made w =
+    ap (λ (text : List ℕ). textFrom run first shown ++ text)
+    (rw (w .count, w .whole) (take-append-seam (textFrom run (first + shown) made) _))
+    ∙ sym (text-join run first shown made)
+
+nothing-written : (run : Run) (p : ℕ) (buf : List ℕ) → FrontWritten (textFrom run p 0) buf buf 0
+unfolding shownFrom numbersLines
+nothing-written run p buf = record { whole = refl; count = refl }
+
 -- the refusal of a reply
 refusal-is : (n v : ℕ) {reply : ValueReply} → reply ≡ valueReply n v → reply .refusal ≡ n
 refusal-is zero v e = ap (λ (r : ValueReply). r .refusal) e
 refusal-is (suc n) v e = ap (λ (r : ValueReply). r .refusal) e
 
+-- as many as there is room for, as the run has and as are left of those asked for
+least-assoc : (x y z : ℕ) → min (min x y) z ≡ min x (min y z)
+least-assoc x y z = omega arith
+
+least-less : (x y s : ℕ) → min (y - s) (x - s) ≡ min x y - s
+least-less x y s = omega arith
+
+due-left : (room count first many shown : ℕ) →
+    min (min room (count - (first + shown))) (many - shown) ≡ min room (min many (count - first) - shown)
+due-left room count first many shown =
+    let behind : count - (first + shown) ≡ count - first - shown = omega arith in
+    ap (λ (k : ℕ). min (min room k) (many - shown)) behind
+    ∙ least-assoc room (count - first - shown) (many - shown)
+    ∙ ap (min room) (least-less many (count - first) shown)
+
 module _ {run : Run} {p : ℕ} {before numbers : List ℕ} {answer : ValueAnswer}
     (r : RemakePromise run p before numbers (plainValue answer)) where
   -- a run that is refused
-  pub chunk-none : {x : Refusal} → answer ≡ Refused x → (left : ℕ) (buf : List ℕ) →
-      ChunkPromise run p left (length before) buf buf (record { made = 0; bytes = 0 })
-  unfolding shownFrom numbersLines
-  chunk-none {x} e left buf =
+  pub chunk-none : {x : Refusal} {first shown : ℕ} → answer ≡ Refused x → p ≡ first + shown → (many : ℕ) (buf : List ℕ) →
+      ChunkPromise run first many shown (length before) buf buf (record { made = 0; bytes = 0 })
+  chunk-none {x} {first} {shown} e at many buf =
       let k = number-suc x in
       let n : runRefusal run ≡ suc (k .0) =
       sym (refusal-is (runRefusal run) _ (r .equals)) ∙ ap (λ (a : ValueAnswer). plainValue a .refusal) e ∙ k .1 in
-      record { count = rw n; written = record { whole = refl; count = refl } }
+      let w = nothing-written run (first + shown) buf in
+      record { count = rw n (omega arith); written = w; joined = joined-front run first shown 0 w }
 
   module _ {n : ℕ} (e : answer ≡ Value n) where
     zero-refusal : runRefusal run ≡ 0
@@ -77,14 +132,22 @@ module _ {run : Run} {p : ℕ} {before numbers : List ℕ} {answer : ValueAnswer
         ∙ take-append-le m (shownFrom run p n) (drop n before) (omega (arith, shown-length run p n))
         ∙ shown-take run p m n few
 
-    pub chunk-made : {m left bytes : ℕ} {buf after : List ℕ} → m ≡ min n left →
+    pub chunk-made : {first many shown m bytes : ℕ} {buf after : List ℕ} → p ≡ first + shown → m ≡ min n (many - shown) →
         FrontWritten (numbersLines (take m numbers)) buf after bytes →
-        ChunkPromise run p left (length before) buf after (record { made = m; bytes = bytes })
-    chunk-made {m} {left} least w =
+        ChunkPromise run first many shown (length before) buf after (record { made = m; bytes = bytes })
+    chunk-made {first} {many} {shown} {m} {bytes} {buf} {after} at least w =
         let few : m ≤ n = omega (arith, least) in
+        let w′ : FrontWritten (textFrom run (first + shown) m) buf after bytes =
+        subst (λ (vs : List ℕ). FrontWritten (numbersLines vs) buf after bytes)
+        (made-are few ∙ ap (λ (q : ℕ). shownFrom run q m) at) w in
         record {
-          count = rw zero-refusal (least ∙ ap (λ (k : ℕ). min k left) count-is);
-          written = rw (← made-are few) w;
+          count =
+              rw zero-refusal
+              (least
+              ∙ ap (λ (k : ℕ). min k (many - shown)) (count-is ∙ ap (λ (q : ℕ). remadeCount run q (length before)) at)
+              ∙ due-left (length before) (run .count) first many shown);
+          written = w′;
+          joined = joined-front run first shown m w′;
         }
 
 -- the numbers of a chunk fit the buffer
@@ -99,13 +162,18 @@ chunk-fits m numbers below room =
         let same = getD-take m numbers i 0 in-front in
         omega (arith, same, below i (omega (arith, length-take m numbers)))
 
--- A chunk is within what is left and within the run, so that the next position is a 64-bit number.
-pub chunk-left : {run : Run} {p left room : ℕ} {before after : List ℕ} {chunk : Chunk} →
-    ChunkPromise run p left room before after chunk →
-    (chunk .made ≤ left) × ((chunk .made ≡ 0 → ⊥) → p + chunk .made < 2 ^ 64)
-chunk-left {run} {p} {left} {room} {chunk = chunk} c = go (runRefusal run) refl (c .count)
+-- What is due is within what is asked for, and its end is a 64-bit number, as the end of the run is.
+pub part-fits : (run : Run) (first many : ℕ) → first < 2 ^ 64 →
+    (partDue run first many ≤ many) × (first + partDue run first many < 2 ^ 64)
+part-fits run first many f = go (runRefusal run) refl
   where
-    go : (n : ℕ) → runRefusal run ≡ n → chunk .made ≡ dueOf n run p left room →
-        (chunk .made ≤ left) × ((chunk .made ≡ 0 → ⊥) → p + chunk .made < 2 ^ 64)
-    go zero z e = (omega arith, λ some. omega (arith, valid-run run z .end))
-    go (suc n) z e = (omega arith, λ some. absurd (some e))
+    go : (n : ℕ) → runRefusal run ≡ n → (dueOf n run first many ≤ many) × (first + dueOf n run first many < 2 ^ 64)
+    go zero z = (omega arith, omega (arith, valid-run run z .end))
+    go (suc n) z = (omega arith, omega arith)
+
+-- The ways out of the loop: a chunk of none, though there is room, or all that was asked for.
+pub shown-all : {due shown : ℕ} → shown ≡ due → ShownPromise due (record { count = shown; written = true })
+shown-all e = record { all = λ t. e }
+
+pub shown-unwritten : {due shown : ℕ} → ShownPromise due (record { count = shown; written = false })
+shown-unwritten = record { all = λ t. absurd (let z : _≡_ {A = ℕ} 0 1 = cc in omega arith) }

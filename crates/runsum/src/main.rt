@@ -4,8 +4,6 @@ use runsum_io::output::print_output;
 
 fn main() {
     let mut bytes = [0u8; 65537];
-    let archive = read_archive(&mut bytes);
-    let n = archive.n;
-    let rest = archive.rest;
-    print_output(&bytes[..n], rest);
+    let last = read_archive(&mut bytes);
+    print_output(&bytes, last);
 }

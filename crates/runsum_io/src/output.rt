@@ -1,10 +1,11 @@
 // What the program prints, decided by what was read of the file.
 ghost use Prim.Native.Nat.{_≤_};
-ghost use lib.ListN.{length};
+ghost use lib.ListN.{length, take};
 ghost use Rattle.fields.specs.Codec.{FrontWritten};
-ghost use Rattle.archive_io.specs.Input.{Enough};
+ghost use Rattle.archive_io.specs.Input.{Filled};
 ghost use Rattle.runsum_io.specs.Output.{OutputPromise, outputOf};
 use crate::text::write_text;
+use archive_io::input::LastRead;
 use archive_io::input::Rest;
 use archive_io::notice::Notice;
 use archive_io::notice::print;
@@ -13,24 +14,29 @@ use refusals::number;
 use summary::SummaryAnswer;
 
 // Prints it in one piece.
-pub fn print_output(archive: &[u8], rest: Rest)
-    requires { ⌜ Enough 65537 (length (now archive)) rest ⌝ }
+pub fn print_output(archive: &[u8], last: LastRead)
+    requires { ⌜ 65537 ≤ length (now archive) ⌝ }
+    requires { ⌜ Filled (now archive) last ⌝ }
 {
     let mut buf = [0u8; 131099];
-    let n = write_output(&mut buf, archive, rest);
+    let n = write_output(&mut buf, archive, last);
     print(&buf[..n], b"runsum: the answer could not be written\n");
 }
 
 // Writes it from the first byte of the buffer on and answers how many bytes it wrote. An archive has at most 65,536 bytes,
 // so 65,537 show that it is too long; the text has at most twice as many bytes as the archive and 27 more.
-pub fn write_output(buf: &mut [u8], archive: &[u8], rest: Rest) -> usize
+pub fn write_output(buf: &mut [u8], archive: &[u8], last: LastRead) -> usize
     requires { ⌜ 131099 ≤ length (now buf) ⌝ }
-    requires { ⌜ Enough 65537 (length (now archive)) rest ⌝ }
-    ensures { λ r. ⌜ OutputPromise (now (archive .entry)) rest (now (buf .entry)) (now (buf .exit)) r ⌝ }
+    requires { ⌜ 65537 ≤ length (now archive) ⌝ }
+    requires { ⌜ Filled (now archive) last ⌝ }
+    ensures { λ r. ⌜ OutputPromise (take (last .reading .n) (now (archive .entry))) (last .reading .rest) (now (buf .entry)) (now (buf .exit)) r ⌝ }
 {
+    let reading = last.reading;
+    let n = reading.n;
+    let rest = reading.rest;
     match rest {
-        Rest::Nothing => write_answer(buf, archive),
-        Rest::Unknown => write_answer(buf, archive),
+        Rest::Nothing => write_answer(buf, &archive[..n]),
+        Rest::Unknown => write_answer(buf, &archive[..n]),
         Rest::Failed => write_notice(buf, Notice::Unread),
     }
 }

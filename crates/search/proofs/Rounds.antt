@@ -3,9 +3,9 @@
 -- 2 ^ e modulo 2 ^ 64, and the counters stay below the limit. One law stands for each way through a body.
 --   loop-start, loop-stays, loop-doubles, loop-stops, loop-done   the search for a number
 --   turn-start, turn-stays, turn-doubles, turn-done               the search for the first element, where nothing is away
-use mathlib.Core.Path.{_≡_, refl}
+use mathlib.Core.Path.{_≡_, refl, subst}
 use mathlib.Core.Bool.{Bool, true, false, cond}
-use Prim.Native.Nat.{ℕ, suc, _+_, _*_, _%_, _^_, _≤_, _<_}
+use Prim.Native.Nat.{ℕ, suc, _+_, _*_, _%_, _-_, _^_, _≤_, _<_}
 use native.Mathlib.Nat.{le-antisymm}
 use native.Mathlib.Numerals.{add-one}
 use native.Mathlib.Omega.{arith}
@@ -13,6 +13,7 @@ use lib.Dec.{eqb}
 use borrow.Author.Tests.{eqb-true, eqb-false}
 use Rattle.words.specs.Alpha.{Alpha}
 use Rattle.words.proofs.Congruence.{Congruent, same-refl, same-trans, same-regroup, same-result, same-add}
+use Rattle.sequences.specs.Places.{Settles}
 use Rattle.sequences.specs.Search.{Begins}
 use Rattle.sequences.proofs.Searches.{
   Searching,
@@ -27,8 +28,8 @@ use Rattle.sequences.proofs.Searches.{
 use Rattle.search.specs.Settling.{Settling, Doubling}
 
 -- The search for a number.
-pub record Loop (limit away₀ drift₀ factor₀ away drift factor differs k period e m : ℕ) : Type 0 where
-  pub within : m ≤ limit
+pub record Loop (limit away₀ drift₀ factor₀ away drift factor differs k period e left m : ℕ) : Type 0 where
+  pub within : m + left ≡ limit
   pub exponent-within : e ≤ m
   pub alpha : Alpha away differs
   pub power : Congruent (2 ^ 64) period (2 ^ e)
@@ -36,7 +37,7 @@ pub record Loop (limit away₀ drift₀ factor₀ away drift factor differs k pe
       Searching n x y limit away drift factor k e m
 
 pub loop-start : {away differs : ℕ} (limit drift factor : ℕ) → Alpha away differs →
-    Loop limit away drift factor away drift factor differs 0 1 0 0
+    Loop limit away drift factor away drift factor differs 0 1 0 limit 0
 loop-start limit drift factor β =
     record {
       within = omega arith;
@@ -51,24 +52,40 @@ power-twice : (e : ℕ) {period twice : ℕ} → Congruent (2 ^ 64) period (2 ^ 
     Congruent (2 ^ 64) twice (2 ^ suc e)
 power-twice e {period} h q = same-trans (same-result (period + period) q) (same-regroup (same-add h h) refl (omega arith))
 
-module _ {limit away₀ drift₀ factor₀ away drift factor differs k period e m : ℕ}
-    (loop : Loop limit away₀ drift₀ factor₀ away drift factor differs k period e m) where
-  pub loop-done : limit ≤ m → Settling away₀ drift₀ factor₀ limit (record { places = m; index = k; exponent = e })
-  loop-done l = record { settles = λ n x y b. search-done b (loop .law n x y b) l }
+module _ {limit away₀ drift₀ factor₀ away drift factor differs k period e left m : ℕ}
+    (loop : Loop limit away₀ drift₀ factor₀ away drift factor differs k period e left m) where
+  pub loop-done : left ≤ 0 → Settling away₀ drift₀ factor₀ limit (record { places = limit; index = k; exponent = e })
+  loop-done none =
+      record {
+        settles =
+            λ n x y b.
+            let all : m ≡ limit = omega (arith, loop .within) in
+            subst (λ (p : ℕ). Settles x y limit p k e) all (search-done b (loop .law n x y b) (omega (arith, all)));
+      }
 
-  module _ {returning : ℕ} (l : m < limit) (α : Alpha drift returning) where
+  module _ {returning : ℕ} (some : 0 < left) (α : Alpha drift returning) where
+    l : m < limit
+    l = omega (arith, loop .within)
+
     -- the period stays, and the number differs
     pub loop-stops : (returning ≡ m → ⊥) → differs ≡ m →
-        Settling away₀ drift₀ factor₀ limit (record { places = m; index = k; exponent = e })
-    loop-stops r d = record { settles = λ n x y b. search-stops b (loop .law n x y b) l α (loop .alpha) r d }
+        Settling away₀ drift₀ factor₀ limit (record { places = limit - left; index = k; exponent = e })
+    loop-stops r d =
+        record {
+          settles =
+              λ n x y b.
+              let so-far : m ≡ limit - left = omega (arith, loop .within) in
+              subst (λ (p : ℕ). Settles x y limit p k e) so-far
+              (search-stops b (loop .law n x y b) l α (loop .alpha) r d);
+        }
 
     -- it stays, and the number agrees
     pub loop-stays : (returning ≡ m → ⊥) → (differs ≡ m → ⊥) →
-        Loop limit away₀ drift₀ factor₀ away drift factor differs k period e (m + 1)
+        Loop limit away₀ drift₀ factor₀ away drift factor differs k period e (left - 1) (m + 1)
     loop-stays r d =
         record {
-          within = omega arith;
-          exponent-within = omega arith;
+          within = omega (arith, loop .within);
+          exponent-within = omega (arith, loop .within);
           alpha = loop .alpha;
           power = loop .power;
           law = λ n x y b. search-stays b (loop .law n x y b) l α (loop .alpha) r d;
@@ -82,10 +99,10 @@ module _ {limit away₀ drift₀ factor₀ away drift factor differs k period e 
         (et : twice ≡ (period + period) % 2 ^ 64) where
       either : (test : Bool) → eqb differs m ≡ test →
           Loop limit away₀ drift₀ factor₀ (cond test moved away) wide square (cond test beyond differs) (cond test ahead k)
-          twice (e + 1) (m + 1)
+          twice (e + 1) (left - 1) (m + 1)
       either true q =
           record {
-            within = omega arith;
+            within = omega (arith, loop .within);
             exponent-within = omega (arith, loop .exponent-within);
             alpha = β;
             power = rw add-one (power-twice e (loop .power) et);
@@ -97,7 +114,7 @@ module _ {limit away₀ drift₀ factor₀ away drift factor differs k period e 
           }
       either false q =
           record {
-            within = omega arith;
+            within = omega (arith, loop .within);
             exponent-within = omega (arith, loop .exponent-within);
             alpha = loop .alpha;
             power = rw add-one (power-twice e (loop .power) et);
@@ -108,7 +125,7 @@ module _ {limit away₀ drift₀ factor₀ away drift factor differs k period e 
 
       pub loop-doubles : {differs′ k′ away′ : ℕ} → differs′ ≡ cond (eqb differs m) beyond differs →
           k′ ≡ cond (eqb differs m) ahead k → away′ ≡ cond (eqb differs m) moved away →
-          Loop limit away₀ drift₀ factor₀ away′ wide square differs′ k′ twice (e + 1) (m + 1)
+          Loop limit away₀ drift₀ factor₀ away′ wide square differs′ k′ twice (e + 1) (left - 1) (m + 1)
       loop-doubles ed ek ew′ = rw (ed, ek, ew′) (either (eqb differs m) refl)
 
 -- The search for the first element.

@@ -29,7 +29,8 @@ fn chosen(test: bool, yes: u64, no: u64) -> u64
 // the least index whose element agrees in them, `away` what that element is above the number, `differs` α of it, 2^e the period
 // in them and `period` that modulo 2^64. A period multiplies what an element is above the number by `factor` and adds `drift`.
 // At place m the period doubles exactly when α of the drift is m, and the element at k differs exactly when α of `away` is: if
-// the period stays and it differs, no index agrees there. The loop is fastest with the square before the next drift.
+// the period stays and it differs, no index agrees there. The loop is fastest with the square before the next drift; what is
+// `left` of the places is counted down, so that a caller's test whether all were settled compiles to none.
 pub fn settle(mut away: u64, mut drift: u64, mut factor: u64, limit: u64) -> Settled
     ensures { λ r. ⌜ Settling away drift factor limit r ⌝ }
 {
@@ -37,11 +38,14 @@ pub fn settle(mut away: u64, mut drift: u64, mut factor: u64, limit: u64) -> Set
     let mut k: u64 = 0;
     let mut period: u64 = 1;
     let mut e: u64 = 0;
+    let mut left = limit;
     let mut m: u64 = 0;
-    while m < limit {
+    while left > 0 {
         let returning = alpha(drift);
         let place = m;
+        let open = left;
         m += 1;
+        left -= 1;
         if returning == place {
             let apart = differs == place;
             let moved = wrapping_add_u64(wrapping_mul(factor, away), drift);
@@ -57,14 +61,14 @@ pub fn settle(mut away: u64, mut drift: u64, mut factor: u64, limit: u64) -> Set
             away = chosen(apart, moved, away);
         } else if differs == place {
             return Settled {
-                places: place,
+                places: limit - open,
                 index: k,
                 exponent: e,
             };
         }
     }
     Settled {
-        places: m,
+        places: limit,
         index: k,
         exponent: e,
     }

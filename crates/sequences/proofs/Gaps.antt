@@ -179,6 +179,7 @@ module _ {next x : ℕ → ℕ} {P : ℕ} (s : Steps next x) (o : IsOrbit x 0 P)
         rw (← f .yields, ← t .yields)
         (record {
           period = o;
+          answer = inl refl;
           leads = λ q. turns-leads i j (signedOf P d) (signed-turns a);
           in-range = λ q. signed-range P d (a .below);
           only =
@@ -191,6 +192,7 @@ module _ {next x : ℕ → ℕ} {P : ℕ} (s : Steps next x) (o : IsOrbit x 0 P)
   gap-never n =
       record {
         period = o;
+        answer = inr refl;
         leads = λ q. absurd (omega arith);
         in-range = λ q. absurd (omega arith);
         only = λ q. absurd (omega arith);

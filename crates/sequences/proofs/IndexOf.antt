@@ -1,6 +1,7 @@
 -- The definition of the index finds what it means: the least index of y, if it lies below the bound; the bound, if y has
 -- none. Either way demand 3 holds. And `occurs` tells whether y is one of the first elements.
 use mathlib.Core.Path.{_≡_, refl}
+use mathlib.Core.Logic.{inl, inr}
 use mathlib.Core.Bool.{true, false}
 use Prim.Native.Nat.{ℕ, _<_}
 use native.Mathlib.Nat.{le-refl, le-of-lt}
@@ -24,6 +25,7 @@ module _ {x : ℕ → ℕ} {y bound k : ℕ} (h : Located x y bound k) where
   pub located-least : LeastIndex x y 1 k
   located-least =
       record {
+        answer = inl refl;
         yields = λ f. h .yields;
         others-higher = λ f i e d. omega (arith, h .first i e);
         never = (λ f. absurd (omega arith), λ none. absurd (none k (h .yields)));
@@ -63,6 +65,7 @@ module _ {x : ℕ → ℕ} {y : ℕ} (h : Absent x y) where
   pub absent-least : LeastIndex x y 0 0
   absent-least =
       record {
+        answer = inr refl;
         yields = λ f. absurd (omega arith);
         others-higher = λ f. absurd (omega arith);
         never = (λ f. h .none, λ none. refl);

@@ -2,8 +2,8 @@
 -- successors. Let k be the least one. Before t nothing comes again, so k is the only one if it lies there. From t on elements
 -- are equal exactly at indices that are congruent modulo P, so the others are k plus the multiples of P. And the next index
 -- that the definition of the return finds is there too, or there is none. Where P is 1, one element more tells which.
-use mathlib.Core.Path.{_≡_, sym, ap, _∙_}
-use mathlib.Core.Logic.{_↔_, by-cases}
+use mathlib.Core.Path.{_≡_, refl, sym, ap, _∙_}
+use mathlib.Core.Logic.{_↔_, inl, inr, by-cases}
 use Prim.Native.Nat.{ℕ, suc, _+_, _-_, _*_, _/_, _≤_, _<_}
 use native.Mathlib.Nat.{div-add-mod', zero-mod, le-refl, lt-of-not-le}
 use native.Mathlib.Decide.{ℕ-discrete, decLe}
@@ -36,7 +36,7 @@ module _ {x : ℕ → ℕ} {y bound k : ℕ} (a : Alone x y bound k) where
 
   pub alone-all : (every : ℕ) → AllIndices x y 1 k 0 every
   alone-all every =
-      record { least = located-least (a .located); once = λ f r. alone-only; again = λ f r. absurd (omega arith) }
+      record { least = located-least (a .located); going-on = inr refl; once = λ f r. alone-only; again = λ f r. absurd (omega arith) }
 
   pub alone-return : returnLessOne x bound k ≡ bound
   alone-return = no-return (a .orbit) (a .room) k (a .before)
@@ -68,6 +68,7 @@ module _ {x : ℕ → ℕ} {y bound k P : ℕ} (r : Recurring x y bound k P) whe
     recurring-all =
         record {
           least = located-least (r .located);
+          going-on = inl refl;
           once = λ q z. absurd (omega arith);
           again = λ q z. recurring-exactly;
         }
@@ -83,6 +84,7 @@ pub absent-all : {x : ℕ → ℕ} {y : ℕ} (every : ℕ) → Absent x y → Al
 absent-all every h =
     record {
       least = absent-least h;
+      going-on = inr refl;
       once = λ f r. absurd (omega arith);
       again = λ f r. absurd (omega arith);
     }

@@ -45,6 +45,7 @@ pub record InRange (P : ℕ) (d : ℤ) : Type 0 where
 -- when one of the two has no index, however large.
 pub record SignedSteps (next x : ℕ → ℕ) (P from to found : ℕ) (steps : ℤ) : Type 0 where
   pub period : IsOrbit x 0 P
+  pub answer : (found ≡ 1) ⊎ (found ≡ 0)
   pub leads : found ≡ 1 → Leads next from to steps
   pub in-range : found ≡ 1 → InRange P steps
   pub only : found ≡ 1 → (d : ℤ) → InRange P d → Leads next from to d → d ≡ steps

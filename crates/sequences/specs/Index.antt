@@ -1,6 +1,6 @@
 -- The least index at which a sequence yields a number, or never (SCOPE 1.4, 3.3).
 use mathlib.Core.Path.{_≡_}
-use mathlib.Core.Logic.{_↔_}
+use mathlib.Core.Logic.{_↔_, _⊎_}
 use Prim.Native.Nat.{ℕ, _≤_, _<_}
 use mathlib.Core.Bool.{Bool}
 use lib.Dec.{eqb, ltb}
@@ -14,9 +14,11 @@ indexOf x bound y = least (λ i. eqb (x i) y) bound
 unfoldable pub occurs : (ℕ → ℕ) → ℕ → ℕ → Bool
 occurs x P y = ltb (indexOf x P y) P
 
--- Demand 3 of the index call, in its own words, for indices without end: the reported index yields the number; every
+-- Demand 3 of the index call, in its own words, for indices without end: the answer is an index, found is 1, or never, found
+-- is 0; the reported index yields the number; every
 -- other index that yields it is higher; never comes exactly when no index, however large, yields it.
 pub record LeastIndex (x : ℕ → ℕ) (y found index : ℕ) : Type 0 where
+  pub answer : (found ≡ 1) ⊎ (found ≡ 0)
   pub yields : found ≡ 1 → x index ≡ y
   pub others-higher : found ≡ 1 → (i : ℕ) → x i ≡ y → (i ≡ index → ⊥) → index < i
   pub never : (found ≡ 0) ↔ ((i : ℕ) → x i ≡ y → ⊥)

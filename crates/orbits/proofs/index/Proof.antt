@@ -1,10 +1,10 @@
--- `orbits::index` meets its contract: whether or not it recurs, the index found is the least.
+-- `orbits::index` meets its contract: each kind has its own.
 use borrow.Author.Needs.{needs}
-use mathlib.Core.Path.{_≡_, subst}
-use Rattle.sequences.specs.Occurrences.{IndicesAre}
+use mathlib.Core.Path.{_≡_}
 use Rattle.generator.specs.Check.{refusalOf}
+use Rattle.generator.proofs.Refusals.{kind-told}
 use Rattle.refusals.proofs.Replies.{number-accepted, number-refused}
-use Rattle.orbits.proofs.Indices.{index-refused, index-found, index-never}
+use Rattle.orbits.proofs.Indices.{index-refused}
 use Rattle.orbits.proofs.index.Statement.{statement}
 use Rattle.orbits.proofs.index.Tie as tie
 
@@ -22,38 +22,34 @@ returns c =
 enum-told : tie.Need-enum-told
 enum-told c = search needs
 
--- what holds past the check
-accepted : (c : tie.After-enum-told) → refusalOf (c .before .before .before .args .g) ≡ 0
-accepted c = number-accepted (c .before .before .checked .ensures) (c .enum-told .given .1)
-
-indices-of-requires : tie.Need-indices-of-requires
-indices-of-requires c κs = accepted c
-
-enum-known-found : tie.Need-enum-known-found
-enum-known-found c = search needs
-
-enum-known-found-2 : tie.Need-enum-known-found-2
-enum-known-found-2 c = search needs
+kind-of-requires : tie.Need-kind-of-requires
+kind-of-requires c κs = search needs
 
 enum-told-2 : tie.Need-enum-told-2
 enum-told-2 c = search needs
 
+-- what holds past the check
+accepted : (c : tie.After-enum-told) → refusalOf (c .before .before .before .args .g) ≡ 0
+accepted c = number-accepted (c .before .before .checked .ensures) (c .enum-told .given .1)
+
+index-requires : tie.Need-index-requires
+index-requires c κs =
+    let k = c .before .before in
+    let z = accepted (k .before) in (z, kind-told (k .kind-of .ensures) (c .enum-told2 .given .1) z)
+
+enum-told-3 : tie.Need-enum-told-3
+enum-told-3 c = search needs
+
+index-requires-2 : tie.Need-index-requires-2
+index-requires-2 c κs =
+    let k = c .before .before in
+    let z = accepted (k .before) in (z, kind-told (k .kind-of .ensures) (c .enum-told3 .given .1) z)
+
 returns-2 : tie.Need-returns-2
-returns-2 c =
-    let at = c .before .before .before in
-    index-found _ _ (accepted (at .before))
-    (subst (IndicesAre _ _ _) (c .before .found .given .1) (at .indices-of .ensures) .located)
+returns-2 c = search needs
 
 returns-3 : tie.Need-returns-3
-returns-3 c =
-    let at = c .before .before .before in
-    index-found _ _ (accepted (at .before))
-    (subst (IndicesAre _ _ _) (c .before .found2 .given .1) (at .indices-of .ensures) .located)
-
-returns-4 : tie.Need-returns-4
-returns-4 c =
-    let at = c .before .before in
-    index-never _ _ (accepted (at .before)) (subst (IndicesAre _ _ _) (c .enum-told2 .given .1) (at .indices-of .ensures))
+returns-3 c = search needs
 
 pub index-spec : {M : Type 1} → statement M
 index-spec =
@@ -63,10 +59,10 @@ index-spec =
     enum-known-verdict
     returns
     enum-told
-    indices-of-requires
-    enum-known-found
-    enum-known-found-2
+    kind-of-requires
     enum-told-2
+    index-requires
+    enum-told-3
+    index-requires-2
     returns-2
-    returns-3
-    returns-4)
+    returns-3)

@@ -1,17 +1,16 @@
 -- `search::settle` meets its contract: the loop's invariant is `Loop`, with a law for each way through.
 use borrow.Author.Needs.{needs}
-use Prim.Native.Nat.{_-_}
 use Rattle.search.proofs.Rounds.{Loop, loop-start, loop-stays, loop-doubles, loop-stops, loop-done}
 use Rattle.search.proofs.settle.Statement.{statement}
 use Rattle.search.proofs.settle.Tie as tie
 
 abbrev Inv-loop : tie.InvT-loop
-Inv-loop away₀ drift₀ factor₀ limit differs₀ k₀ period₀ e₀ m₀ away drift factor differs k period e m =
-    Loop limit away₀ drift₀ factor₀ away drift factor differs k period e m
+Inv-loop away₀ drift₀ factor₀ limit differs₀ k₀ period₀ e₀ left₀ m₀ away drift factor differs k period e left m =
+    Loop limit away₀ drift₀ factor₀ away drift factor differs k period e left m
 
 abbrev μ-loop : tie.MeasureT-loop
-μ-loop away₀ drift₀ factor₀ limit differs₀ k₀ period₀ e₀ m₀ away drift factor differs k period e m =
-    limit - m
+μ-loop away₀ drift₀ factor₀ limit differs₀ k₀ period₀ e₀ left₀ m₀ away drift factor differs k period e left m =
+    left
 
 alpha-requires : tie.Need-alpha-requires Inv-loop μ-loop
 alpha-requires c κs = search needs
@@ -24,6 +23,9 @@ alpha-requires-2 c κs = search needs
 
 add-m : tie.Need-add-m Inv-loop μ-loop
 add-m c = search needs
+
+sub-left : tie.Need-sub-left Inv-loop μ-loop
+sub-left c = search needs
 
 wrapping-mul-requires : tie.Need-wrapping-mul-requires Inv-loop μ-loop
 wrapping-mul-requires c κs = search needs
@@ -76,6 +78,9 @@ loop-again c =
     (p .before .before .wrapping-add-u643 .ensures) (p .before .wrapping-mul3 .ensures) (p .wrapping-add-u644 .ensures)
     (c .before .before .chosen .ensures) (c .before .chosen2 .ensures) (c .chosen3 .ensures)
 
+sub-t22 : tie.Need-sub-t22 Inv-loop μ-loop
+sub-t22 c = search needs
+
 returns : tie.Need-returns Inv-loop μ-loop
 returns c =
     let a = c .before .before in
@@ -104,6 +109,7 @@ settle-spec =
     loop-holds
     alpha-requires-2
     add-m
+    sub-left
     wrapping-mul-requires
     wrapping-add-u64-requires
     alpha-requires-3
@@ -118,6 +124,7 @@ settle-spec =
     chosen-requires-3
     loop-less
     loop-again
+    sub-t22
     returns
     loop-less-2
     loop-again-2

@@ -1,8 +1,9 @@
 //! Compares every call of the proved library with the model: on all generators of widths 1 to 5 and all
 //! their low bits, at widths 1 to 4 on all short runs for the variety and all pairs of numbers for the
 //! gap, at width 0 on every digit of the index by itself, for the summary on chosen sums, cut archives and
-//! every changed byte, for equal lines on twins at every place, almost equal lines and lines of one slot, and
-//! on random calls, accepted and refused. Ends with status 1 at the first difference.
+//! every changed byte, for equal lines on twins at every place, almost equal lines and lines of one slot, on
+//! numbers whose lower bits are accepted ones, and on random calls, accepted and refused. Ends with status 1
+//! at the first difference.
 //!
 //!     cargo run --release --bin differential
 
@@ -812,6 +813,46 @@ fn random_prime_calls(share: u64) -> Tally {
     random_calls_on(r, samples::prime_generator, samples::mixed_run, PRIME_CALLS / SHARES)
 }
 
+// Numbers of which 8, 16 or 32 bits are accepted ones.
+
+const BEYOND: [u64; 4] = [1 << 8, 1 << 16, 1 << 32, 1 << 63];
+
+/// Widths of every call, places, positions, and numbers of lines.
+fn calls_beyond(tally: &mut Tally, r: &mut Random, more: u64) {
+    let width = 1 + r.below(64);
+    let g = samples::accepted_generator(r, width);
+    let number = samples::number(r, g);
+    let places = 1 + r.below(width);
+    let run = Run { generator: g, first: r.below(100), count: 1 + r.below(100) };
+    let position = r.below(run.count);
+    let wider = Run { generator: Generator { width: width + more, ..g }, ..run };
+
+    tally.customary_multiplier(width + more);
+    tally.index_places(g, places + more, number);
+    tally.remake(run, position + more, [7; 20], 19);
+    tally.element(wider.generator, number);
+    tally.orbit(wider.generator);
+    tally.index(wider.generator, number);
+    tally.index_places(wider.generator, places, number);
+    tally.gap(wider.generator, number, g.seed);
+    tally.predecessor(wider.generator, number);
+    tally.variety(wider);
+    tally.write_line(wider, [7; 160], 160);
+    tally.read_line(&line_of(&wider));
+    tally.remake(wider, position, [7; 20], 19);
+    let archive = samples::archive(r, samples::mixed_run, 0).bytes;
+    (0..4).for_each(|line| tally.line(&archive, line + more));
+}
+
+fn random_calls_beyond(share: u64) -> Tally {
+    let mut tally = Tally::default();
+    let mut r = Random::new(SEED + 4 * SHARES + share);
+    for more in BEYOND {
+        (0..1000 / SHARES).for_each(|_| calls_beyond(&mut tally, &mut r, more));
+    }
+    tally
+}
+
 /// The sum of all shares, each counted by a thread.
 fn shared(work: fn(u64) -> Tally) -> Tally {
     let threads: Vec<_> = (0..SHARES).map(|share| thread::spawn(move || work(share))).collect();
@@ -838,5 +879,6 @@ fn main() {
     chosen_prime_calls().print("width 0, chosen calls");
     shared(random_prime_indices).print("width 0, numbers from their indices");
     shared(random_prime_calls).print("width 0, random calls");
+    shared(random_calls_beyond).print("beyond 8, 16 and 32 bits");
     println!("\nno difference, {} seconds", start.elapsed().as_secs());
 }

@@ -1,6 +1,6 @@
--- `input::read_more` meets its contract: where more may follow, some bytes were read.
-use native.Mathlib.Omega.{arith}
-use Rattle.archive_io.proofs.Filling.{some-read}
+-- `input::read_more` meets its contract: the reading is made of what the read gave, behind the bytes that were there.
+use mathlib.Core.Path.{refl}
+use Rattle.archive_io.proofs.Filling.{part-room}
 use borrow.Author.Needs.{needs}
 use Rattle.archive_io.proofs.input.read_more.Statement.{statement}
 use Rattle.archive_io.proofs.input.read_more.Tie as tie
@@ -17,29 +17,23 @@ part-read-end c = search needs
 read-requires : tie.Need-read-requires
 read-requires c κs = search needs
 
-sub-count : tie.Need-sub-count
-sub-count c = search needs
+sub-reading-after : tie.Need-sub-reading-after
+sub-reading-after c = search needs
 
-part-count-start : tie.Need-part-count-start
-part-count-start c = search needs
+part-reading-after-start : tie.Need-part-reading-after-start
+part-reading-after-start c = search needs
 
-part-count-end : tie.Need-part-count-end
-part-count-end c = search needs
+part-reading-after-end : tie.Need-part-reading-after-end
+part-reading-after-end c = search needs
 
-count-requires : tie.Need-count-requires
-count-requires c κs = search needs
-
-add-t7 : tie.Need-add-t7
-add-t7 c = search needs
-
-rest-after-requires : tie.Need-rest-after-requires
-rest-after-requires c κs = search needs
+reading-after-requires : tie.Need-reading-after-requires
+reading-after-requires c κs = search needs
 
 same-length : tie.Need-same-length
 same-length c = search needs
 
 returns : tie.Need-returns
-returns c = (search needs, search needs, λ u. omega (arith, some-read _ _ (c .rest-after .ensures) u))
+returns c = (refl, rw part-room at (c .reading-after .ensures))
 
 pub read-more-spec : {M : Type 1} → statement M
 read-more-spec =
@@ -49,11 +43,9 @@ read-more-spec =
     part-read-start
     part-read-end
     read-requires
-    sub-count
-    part-count-start
-    part-count-end
-    count-requires
-    add-t7
-    rest-after-requires
+    sub-reading-after
+    part-reading-after-start
+    part-reading-after-end
+    reading-after-requires
     same-length
     returns)

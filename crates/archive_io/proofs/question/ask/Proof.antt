@@ -1,8 +1,13 @@
 -- `question::ask` meets its contract, by what follows the bytes read.
+use native.Mathlib.Omega.{arith}
 use Rattle.archive_io.proofs.Asking.{ask-all, ask-front, ask-none}
+use Rattle.archive_io.proofs.Filling.{filled-enough}
 use borrow.Author.Needs.{needs}
 use Rattle.archive_io.proofs.question.ask.Statement.{statement}
 use Rattle.archive_io.proofs.question.ask.Tie as tie
+
+slice-aggregate-read : tie.Need-slice-aggregate-read
+slice-aggregate-read c = search needs
 
 read-requires : tie.Need-read-requires
 read-requires c κs = search needs
@@ -27,8 +32,9 @@ same-length-2 c = search needs
 
 returns-2 : tie.Need-returns-2
 returns-2 c =
+    let start = c .before .before .before .before .before .before .before .before .before .before in
     ask-front (c .before .before .before .before .read .ensures) (c .enum-told2 .given .1)
-    (c .before .before .before .before .before .before .before .before .pre)
+    (filled-enough (start .pre .1) (start .pre .0))
 
 same-length-3 : tie.Need-same-length-3
 same-length-3 c = search needs
@@ -40,6 +46,7 @@ pub ask-spec : {M : Type 1} → statement M
 ask-spec =
     tie.close
     (tie.spec
+    slice-aggregate-read
     read-requires
     enum-told
     enum-told-2

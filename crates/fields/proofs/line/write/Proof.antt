@@ -37,8 +37,8 @@ write-field-requires c κs =
     front-room (l .before .loop .inv) (next-field _ _ (l .loop-test .taken) (c .before .before .delimiter-before .ensures))
     (l .before .before .before .before .pre)
 
-add-k : tie.Need-add-k Inv-loop μ-loop
-add-k c = search needs
+add-written : tie.Need-add-written Inv-loop μ-loop
+add-written c = search needs
 
 loop-less : tie.Need-loop-less Inv-loop μ-loop
 loop-less c = search needs
@@ -69,7 +69,7 @@ write-spec =
     mul-write-field
     shared-slice-read-write-field
     write-field-requires
-    add-k
+    add-written
     loop-less
     loop-again
     same-length

@@ -1,7 +1,5 @@
 -- `decision::respond` meets its contract: there is no question, or the file is read, of which enough is read to decide.
 use mathlib.Core.Path.{refl}
-use native.Mathlib.Omega.{arith}
-use Rattle.archive_io.proofs.Filling.{filled-enough}
 use Rattle.archive_io.proofs.Deciding.{answered-none, answered}
 use Rattle.runfind_io.proofs.Deciding.{number-some}
 use borrow.Author.Needs.{needs}
@@ -17,31 +15,33 @@ enum-known-value c = search needs
 enum-told : tie.Need-enum-told
 enum-told c = search needs
 
-returns : tie.Need-returns
-returns c = answered-none (c .before .before .asked .ensures) (c .enum-told .given .1) (λ file. refl)
-
-read-archive-requires : tie.Need-read-archive-requires
-read-archive-requires c κs = search needs
-
-slice-reshare-prefix-decide : tie.Need-slice-reshare-prefix-decide
-slice-reshare-prefix-decide c = search needs
-
-slice-aggregate-decide : tie.Need-slice-aggregate-decide
-slice-aggregate-decide c = search needs
-
-decide-requires : tie.Need-decide-requires
-decide-requires c κs =
-    let r = c .before .before .before in
-    let start = r .before .before .before .before .before .before .before .before in
-    filled-enough (r .read-archive .ensures) (omega (arith, start .pre .1, r .read-archive .kept .0))
+not-read-requires : tie.Need-not-read-requires
+not-read-requires c κs = search needs
 
 same-length : tie.Need-same-length
 same-length c = search needs
 
+returns : tie.Need-returns
+returns c =
+    let told = c .before .before in
+    (answered-none (told .before .before .asked .ensures) (told .enum-told .given .1) (λ file. refl), c .not-read .ensures)
+
+read-archive-requires : tie.Need-read-archive-requires
+read-archive-requires c κs = search needs
+
+decide-requires : tie.Need-decide-requires
+decide-requires c κs = search needs
+
+same-length-2 : tie.Need-same-length-2
+same-length-2 c = search needs
+
 returns-2 : tie.Need-returns-2
 returns-2 c =
-    let l = c .before .before .before .before .before .before .before in
-    answered (l .before .before .asked .ensures) (l .value .given .1) number-some (c .decide .ensures)
+    let read = c .before .before .before .before in
+    let known = read .before .before .before in (
+      answered (known .before .before .asked .ensures) (known .value .given .1) number-some (c .decide .ensures),
+      read .read-archive .ensures,
+    )
 
 pub respond-spec : {M : Type 1} → statement M
 respond-spec =
@@ -50,10 +50,10 @@ respond-spec =
     asked-requires
     enum-known-value
     enum-told
+    not-read-requires
+    same-length
     returns
     read-archive-requires
-    slice-reshare-prefix-decide
-    slice-aggregate-decide
     decide-requires
-    same-length
+    same-length-2
     returns-2)

@@ -1,20 +1,24 @@
--- `output::print_chunks` is safe and ends: a chunk is within the buffer, what is left falls, and the run has an end.
+-- `output::print_chunks` meets its contract. The loop's invariant: no more was shown than is due. A chunk has some of what is
+-- still due, as there is room for some, so a chunk of none is the end, and so is all that was asked for. The measure is what is
+-- still due.
 use mathlib.Core.Path.{_≡_}
+use Prim.Native.Nat.{_-_, _≤_}
 use native.Mathlib.Omega.{arith}
 use lib.ListN.{length}
 use borrow.Author.Needs.{needs}
 use Rattle.io.proofs.Counting.{counts}
 use Rattle.archive_io.proofs.FrontWriting.{front-within}
-use Rattle.runshow_io.proofs.Chunks.{chunk-left}
+use Rattle.runshow_io.specs.Output.{partDue}
+use Rattle.runshow_io.proofs.Chunks.{part-fits, shown-all, shown-unwritten}
 use Rattle.runshow_io.proofs.output.print_chunks.Statement.{statement}
 use Rattle.runshow_io.proofs.output.print_chunks.Tie as tie
 
 abbrev Inv-loop : tie.InvT-loop
-Inv-loop run first many numbers₀ buf₀ position₀ left₀ t11 numbers buf position left =
-    (length numbers ≡ length numbers₀) × (length buf ≡ length buf₀)
+Inv-loop run first many numbers₀ buf₀ shown₀ t10 numbers buf shown =
+    (length numbers ≡ length numbers₀) × (length buf ≡ length buf₀) × (shown ≤ partDue run first many)
 
 abbrev μ-loop : tie.MeasureT-loop
-μ-loop run first many numbers₀ buf₀ position₀ left₀ t11 numbers buf position left = left
+μ-loop run first many numbers₀ buf₀ shown₀ t10 numbers buf shown = partDue run first many - shown
 
 loop-holds : tie.Need-loop-holds Inv-loop μ-loop
 loop-holds c = search needs
@@ -29,7 +33,9 @@ same-length-2 : tie.Need-same-length-2 Inv-loop μ-loop
 same-length-2 c = search needs
 
 returns : tie.Need-returns Inv-loop μ-loop
-returns c = search needs
+returns c =
+    let w = c .before .before .before .before .before in
+    shown-all (omega (arith, w .write-chunk .ensures .count, c .if1 .taken))
 
 slice-reshare-prefix-print : tie.Need-slice-reshare-prefix-print Inv-loop μ-loop
 slice-reshare-prefix-print c = let e = c in front-within (e .before .before .before .before .before .write-chunk .ensures .written)
@@ -52,23 +58,28 @@ same-length-4 : tie.Need-same-length-4 Inv-loop μ-loop
 same-length-4 c = search needs
 
 returns-2 : tie.Need-returns-2 Inv-loop μ-loop
-returns-2 c = search needs
+returns-2 c = shown-unwritten
 
-add-position : tie.Need-add-position Inv-loop μ-loop
-add-position c =
-    let e = c .before .before .before .before in
-    omega (arith, chunk-left (e .before .before .before .before .before .write-chunk .ensures) .1 (e .if1 .left))
-
-sub-left : tie.Need-sub-left Inv-loop μ-loop
-sub-left c =
-    let e = c .before .before .before .before in
-    omega (arith, chunk-left (e .before .before .before .before .before .write-chunk .ensures) .0)
+add-shown : tie.Need-add-shown Inv-loop μ-loop
+add-shown c =
+    let w = c .before .before .before .before .before .before .before .before .before in
+    let start = w .before .before .before .before .before .before .before in
+    let due = part-fits (start .args .run) (start .args .first) (start .args .many) (start .fits .first .fits) .0 in
+    record { fits = omega (arith, w .write-chunk .ensures .count, w .before .before .before .before .loop .inv .2, due, start .fits .many) }
 
 loop-less : tie.Need-loop-less Inv-loop μ-loop
-loop-less c = search needs
+loop-less c =
+    let some = c .before .before .before .before in
+    let w = some .before .before .before .before .before in
+    let loop = w .before .before .before .before .loop in
+    let start = w .before .before .before .before .before .before .before in
+    omega (arith, w .write-chunk .ensures .count, loop .inv .0, loop .inv .2, start .pre .0, some .if1 .left)
 
 loop-again : tie.Need-loop-again Inv-loop μ-loop
-loop-again c = search needs
+loop-again c =
+    let w = c .before .before .before .before .before .before .before .before .before in
+    let loop = w .before .before .before .before .loop in
+    (search needs, search needs, omega (arith, w .write-chunk .ensures .count, loop .inv .2))
 
 same-length-5 : tie.Need-same-length-5 Inv-loop μ-loop
 same-length-5 c = search needs
@@ -77,7 +88,10 @@ same-length-6 : tie.Need-same-length-6 Inv-loop μ-loop
 same-length-6 c = search needs
 
 returns-3 : tie.Need-returns-3 Inv-loop μ-loop
-returns-3 c = search needs
+returns-3 c =
+    let start = c .before .before .before .before in
+    let due = part-fits (start .args .run) (start .args .first) (start .args .many) (start .fits .first .fits) .0 in
+    shown-all (omega (arith, c .before .loop .inv .2, c .loop-test .left, due))
 
 pub print-chunks-spec : {M : Type 1} → statement M
 print-chunks-spec =
@@ -97,8 +111,7 @@ print-chunks-spec =
     same-length-3
     same-length-4
     returns-2
-    add-position
-    sub-left
+    add-shown
     loop-less
     loop-again
     same-length-5

@@ -1,4 +1,4 @@
--- `output::print_notice` is safe and ends: the line is within the buffer.
+-- `output::print_notice` meets its contract: the line is within the buffer, and no number is shown.
 use Rattle.io.proofs.Counting.{counts}
 use Rattle.archive_io.proofs.FrontWriting.{front-within}
 use borrow.Author.Needs.{needs}

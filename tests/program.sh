@@ -161,7 +161,8 @@ failing_questions() {
         python3 -c "$not_blocking" "$question"
 }
 
-# Runs a program whose standard output is a pipe that is full, so that it waits there, and tells whether it holds the file open.
+# Runs a program whose standard output is a pipe that is full, so that it waits there, and tells whether it holds the file open
+# for ten seconds.
 full_output='
 import os, subprocess, sys, time
 out, into = os.pipe()
@@ -172,10 +173,15 @@ try:
 except BlockingIOError:
     os.set_blocking(into, True)
 program = subprocess.Popen(sys.argv[1], stdout=into)
-time.sleep(0.5)
 held = f"/proc/{program.pid}/fd"
-names = [os.path.basename(os.readlink(os.path.join(held, one))) for one in os.listdir(held)]
-print("ended" if program.poll() is not None else "open" if "archive.csv" in names else "closed")
+told = "open"
+for _ in range(20):
+    time.sleep(0.5)
+    names = [os.path.basename(os.readlink(os.path.join(held, one))) for one in os.listdir(held)]
+    if "archive.csv" not in names:
+        told = "closed"
+        break
+print(told if program.poll() is None else "ended")
 program.kill()'
 
 # closed_file: the file is closed once it is read.

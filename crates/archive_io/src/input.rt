@@ -19,10 +19,11 @@ pub struct Reading {
     pub rest: Rest,
 }
 
-// The last read: how many bytes stood in the buffer before it, what it gave, and the reading after it.
+// The last read: how many bytes stood in the buffer before it, what it gave, and the reading after it. Its fields but the last
+// are private, so that no other crate can make one up.
 pub struct LastRead {
-    pub before: usize,
-    pub got: isize,
+    before: usize,
+    got: isize,
     pub reading: Reading,
 }
 

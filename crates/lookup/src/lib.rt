@@ -5,9 +5,9 @@ use archive::ArchiveCheck;
 use archive::checked;
 use refusals::Refusal;
 
+pub mod location;
 pub mod plain;
 pub mod position;
-pub mod search;
 
 pub enum LookupAnswer {
     At(u64, u64),
@@ -33,5 +33,5 @@ pub fn lookup(archive: &[u8], value: u64) -> LookupAnswer
     if let ArchiveCheck::Refused(refusal, number) = verdict {
         return LookupAnswer::Refused(refusal, number);
     }
-    search::earliest(archive, value)
+    location::earliest(archive, value)
 }

@@ -1,9 +1,9 @@
 -- What the loops of this crate hold: for every sequence and number with which their locals can have begun, the search as
 -- `sequences` has it. What is true of the locals whatever they began with stands beside it: `differs` is α of `away`, `period` is
--- 2 ^ e modulo 2 ^ 64, and the counters stay below the limit. One law stands for each way through a body.
+-- a power of two modulo 2 ^ 64, and the counters stay below the limit. One law stands for each way through a body.
 --   loop-start, loop-stays, loop-doubles, loop-stops, loop-done   the search for a number
 --   turn-start, turn-stays, turn-doubles, turn-done               the search for the first element, where nothing is away
-use mathlib.Core.Path.{_≡_, refl, subst}
+use mathlib.Core.Path.{_≡_, refl, _∙_}
 use mathlib.Core.Bool.{Bool, true, false, cond}
 use Prim.Native.Nat.{ℕ, suc, _+_, _*_, _%_, _-_, _^_, _≤_, _<_}
 use native.Mathlib.Nat.{le-antisymm}
@@ -12,7 +12,8 @@ use native.Mathlib.Omega.{arith}
 use lib.Dec.{eqb}
 use borrow.Author.Tests.{eqb-true, eqb-false}
 use Rattle.words.specs.Alpha.{Alpha}
-use Rattle.words.proofs.Congruence.{Congruent, same-refl, same-trans, same-regroup, same-result, same-add}
+use Rattle.words.proofs.Places.{alpha-power}
+use Rattle.words.proofs.Congruence.{same-regroup, same-result, same-add}
 use Rattle.sequences.specs.Places.{Settles}
 use Rattle.sequences.specs.Search.{Begins}
 use Rattle.sequences.proofs.Searches.{
@@ -28,62 +29,72 @@ use Rattle.sequences.proofs.Searches.{
 use Rattle.search.specs.Settling.{Settling, Doubling}
 
 -- The search for a number.
-pub record Loop (limit away₀ drift₀ factor₀ away drift factor differs k period e left m : ℕ) : Type 0 where
+pub record Loop (limit away₀ drift₀ factor₀ away drift factor differs k period left m : ℕ) : Type 0 where
+  pub exponent : ℕ
   pub within : m + left ≡ limit
-  pub exponent-within : e ≤ m
+  pub exponent-within : exponent ≤ m
   pub alpha : Alpha away differs
-  pub power : Congruent (2 ^ 64) period (2 ^ e)
+  pub power : period ≡ 2 ^ exponent % 2 ^ 64
   pub law : (n : ℕ) (x : ℕ → ℕ) (y : ℕ) → Begins n x y limit away₀ drift₀ factor₀ →
-      Searching n x y limit away drift factor k e m
+      Searching n x y limit away drift factor k exponent m
 
 pub loop-start : {away differs : ℕ} (limit drift factor : ℕ) → Alpha away differs →
-    Loop limit away drift factor away drift factor differs 0 1 0 limit 0
+    Loop limit away drift factor away drift factor differs 0 1 limit 0
 loop-start limit drift factor β =
     record {
+      exponent = 0;
       within = omega arith;
       exponent-within = omega arith;
       alpha = β;
-      power = same-refl (2 ^ 64) 1;
+      power = refl;
       law = λ n x y b. search-start b;
     }
 
 -- twice a period, modulo 2 ^ 64
-power-twice : (e : ℕ) {period twice : ℕ} → Congruent (2 ^ 64) period (2 ^ e) → twice ≡ (period + period) % 2 ^ 64 →
-    Congruent (2 ^ 64) twice (2 ^ suc e)
-power-twice e {period} h q = same-trans (same-result (period + period) q) (same-regroup (same-add h h) refl (omega arith))
+power-twice : (e : ℕ) {period twice : ℕ} → period ≡ 2 ^ e % 2 ^ 64 → twice ≡ (period + period) % 2 ^ 64 →
+    twice ≡ 2 ^ suc e % 2 ^ 64
+power-twice e h q = let s = same-result (2 ^ e) h in q ∙ same-regroup (same-add s s) refl (omega arith) .same
 
-module _ {limit away₀ drift₀ factor₀ away drift factor differs k period e left m : ℕ}
-    (loop : Loop limit away₀ drift₀ factor₀ away drift factor differs k period e left m) where
-  pub loop-done : left ≤ 0 → Settling away₀ drift₀ factor₀ limit (record { places = limit; index = k; exponent = e })
-  loop-done none =
+module _ {limit away₀ drift₀ factor₀ away drift factor differs k period left m : ℕ}
+    (loop : Loop limit away₀ drift₀ factor₀ away drift factor differs k period left m) where
+  -- what was settled, with the exponent read off the period
+  settling : {places e : ℕ} → m ≡ places → Alpha period e →
+      ((n : ℕ) (x : ℕ → ℕ) (y : ℕ) → Begins n x y limit away₀ drift₀ factor₀ →
+      Settles x y limit m k (loop .exponent)) →
+      Settling away₀ drift₀ factor₀ limit (record { places = places; index = k; exponent = e })
+  settling {e = e} q α s =
       record {
         settles =
             λ n x y b.
-            let all : m ≡ limit = omega (arith, loop .within) in
-            subst (λ (p : ℕ). Settles x y limit p k e) all (search-done b (loop .law n x y b) (omega (arith, all)));
+            let read : e ≡ loop .exponent =
+            alpha-power (loop .exponent) (omega (arith, loop .exponent-within, loop .within, b .within, b .word))
+            (loop .power) α in
+            rw (← q, read) (s n x y b);
       }
+
+  pub loop-done : {e : ℕ} → left ≤ 0 → Alpha period e →
+      Settling away₀ drift₀ factor₀ limit (record { places = limit; index = k; exponent = e })
+  loop-done none α =
+      let all : m ≡ limit = omega (arith, loop .within) in
+      settling all α (λ n x y b. search-done b (loop .law n x y b) (omega (arith, all)))
 
   module _ {returning : ℕ} (some : 0 < left) (α : Alpha drift returning) where
     l : m < limit
     l = omega (arith, loop .within)
 
     -- the period stays, and the number differs
-    pub loop-stops : (returning ≡ m → ⊥) → differs ≡ m →
+    pub loop-stops : {e : ℕ} → (returning ≡ m → ⊥) → differs ≡ m → Alpha period e →
         Settling away₀ drift₀ factor₀ limit (record { places = limit - left; index = k; exponent = e })
-    loop-stops r d =
-        record {
-          settles =
-              λ n x y b.
-              let so-far : m ≡ limit - left = omega (arith, loop .within) in
-              subst (λ (p : ℕ). Settles x y limit p k e) so-far
-              (search-stops b (loop .law n x y b) l α (loop .alpha) r d);
-        }
+    loop-stops r d β =
+        settling (omega (arith, loop .within)) β
+        (λ n x y b. search-stops b (loop .law n x y b) l α (loop .alpha) r d)
 
     -- it stays, and the number agrees
     pub loop-stays : (returning ≡ m → ⊥) → (differs ≡ m → ⊥) →
-        Loop limit away₀ drift₀ factor₀ away drift factor differs k period e (left - 1) (m + 1)
+        Loop limit away₀ drift₀ factor₀ away drift factor differs k period (left - 1) (m + 1)
     loop-stays r d =
         record {
+          exponent = loop .exponent;
           within = omega (arith, loop .within);
           exponent-within = omega (arith, loop .within);
           alpha = loop .alpha;
@@ -99,25 +110,27 @@ module _ {limit away₀ drift₀ factor₀ away drift factor differs k period e 
         (et : twice ≡ (period + period) % 2 ^ 64) where
       either : (test : Bool) → eqb differs m ≡ test →
           Loop limit away₀ drift₀ factor₀ (cond test moved away) wide square (cond test beyond differs) (cond test ahead k)
-          twice (e + 1) (left - 1) (m + 1)
+          twice (left - 1) (m + 1)
       either true q =
           record {
+            exponent = loop .exponent + 1;
             within = omega (arith, loop .within);
             exponent-within = omega (arith, loop .exponent-within);
             alpha = β;
-            power = rw add-one (power-twice e (loop .power) et);
+            power = rw add-one (power-twice (loop .exponent) (loop .power) et);
             law =
                 λ n x y b.
                 let s = loop .law n x y b in
-                rw (search-index b s l (loop .power) ea)
+                rw (search-index b s l (same-result (2 ^ loop .exponent) (loop .power)) ea)
                 (search-ahead b s l α (loop .alpha) en ew es r ep em (eqb-true _ _ q));
           }
       either false q =
           record {
+            exponent = loop .exponent + 1;
             within = omega (arith, loop .within);
             exponent-within = omega (arith, loop .exponent-within);
             alpha = loop .alpha;
-            power = rw add-one (power-twice e (loop .power) et);
+            power = rw add-one (power-twice (loop .exponent) (loop .power) et);
             law =
                 λ n x y b.
                 search-doubles b (loop .law n x y b) l α (loop .alpha) en ew es r (eqb-false _ _ q);
@@ -125,7 +138,7 @@ module _ {limit away₀ drift₀ factor₀ away drift factor differs k period e 
 
       pub loop-doubles : {differs′ k′ away′ : ℕ} → differs′ ≡ cond (eqb differs m) beyond differs →
           k′ ≡ cond (eqb differs m) ahead k → away′ ≡ cond (eqb differs m) moved away →
-          Loop limit away₀ drift₀ factor₀ away′ wide square differs′ k′ twice (e + 1) (left - 1) (m + 1)
+          Loop limit away₀ drift₀ factor₀ away′ wide square differs′ k′ twice (left - 1) (m + 1)
       loop-doubles ed ek ew′ = rw (ed, ek, ew′) (either (eqb differs m) refl)
 
 -- The search for the first element.

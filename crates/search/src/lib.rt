@@ -26,18 +26,17 @@ fn chosen(test: bool, yes: u64, no: u64) -> u64
 }
 
 // Goes up at most `limit` bit places, as long as an element agrees with the number sought in them. With m places settled k is
-// the least index whose element agrees in them, `away` what that element is above the number, `differs` α of it, 2^e the period
-// in them and `period` that modulo 2^64. A period multiplies what an element is above the number by `factor` and adds `drift`.
-// At place m the period doubles exactly when α of the drift is m, and the element at k differs exactly when α of `away` is: if
-// the period stays and it differs, no index agrees there. The loop is fastest with the square before the next drift; what is
-// `left` of the places is counted down, so that a caller's test whether all were settled compiles to none.
+// the least index whose element agrees in them, `away` what that element is above the number, `differs` α of it, and `period` the
+// period in them modulo 2^64, whose α is its exponent. A period multiplies what an element is above the number by `factor` and
+// adds `drift`. At place m the period doubles exactly when α of the drift is m, and the element at k differs exactly when α of
+// `away` is: if the period stays and it differs, no index agrees there. The loop is fastest with the square before the next
+// drift; what is `left` of the places is counted down, so that a caller's test whether all were settled compiles to none.
 pub fn settle(mut away: u64, mut drift: u64, mut factor: u64, limit: u64) -> Settled
     ensures { λ r. ⌜ Settling away drift factor limit r ⌝ }
 {
     let mut differs = alpha(away);
     let mut k: u64 = 0;
     let mut period: u64 = 1;
-    let mut e: u64 = 0;
     let mut left = limit;
     let mut m: u64 = 0;
     while left > 0 {
@@ -55,7 +54,6 @@ pub fn settle(mut away: u64, mut drift: u64, mut factor: u64, limit: u64) -> Set
             drift = wrapping_mul(wrapping_add_u64(factor, 1), drift);
             factor = square;
             period = wrapping_add_u64(period, period);
-            e += 1;
             differs = chosen(apart, beyond, differs);
             k = chosen(apart, ahead, k);
             away = chosen(apart, moved, away);
@@ -63,13 +61,13 @@ pub fn settle(mut away: u64, mut drift: u64, mut factor: u64, limit: u64) -> Set
             return Settled {
                 places: limit - open,
                 index: k,
-                exponent: e,
+                exponent: alpha(period),
             };
         }
     }
     Settled {
         places: limit,
         index: k,
-        exponent: e,
+        exponent: alpha(period),
     }
 }

@@ -5,11 +5,11 @@ use Rattle.search.proofs.settle.Statement.{statement}
 use Rattle.search.proofs.settle.Tie as tie
 
 abbrev Inv-loop : tie.InvT-loop
-Inv-loop away₀ drift₀ factor₀ limit differs₀ k₀ period₀ e₀ left₀ m₀ away drift factor differs k period e left m =
-    Loop limit away₀ drift₀ factor₀ away drift factor differs k period e left m
+Inv-loop away₀ drift₀ factor₀ limit differs₀ k₀ period₀ left₀ m₀ away drift factor differs k period left m =
+    Loop limit away₀ drift₀ factor₀ away drift factor differs k period left m
 
 abbrev μ-loop : tie.MeasureT-loop
-μ-loop away₀ drift₀ factor₀ limit differs₀ k₀ period₀ e₀ left₀ m₀ away drift factor differs k period e left m =
+μ-loop away₀ drift₀ factor₀ limit differs₀ k₀ period₀ left₀ m₀ away drift factor differs k period left m =
     left
 
 alpha-requires : tie.Need-alpha-requires Inv-loop μ-loop
@@ -51,9 +51,6 @@ wrapping-mul-requires-3 c κs = search needs
 wrapping-add-u64-requires-4 : tie.Need-wrapping-add-u64-requires-4 Inv-loop μ-loop
 wrapping-add-u64-requires-4 c κs = search needs
 
-add-e : tie.Need-add-e Inv-loop μ-loop
-add-e c = search needs
-
 chosen-requires : tie.Need-chosen-requires Inv-loop μ-loop
 chosen-requires c κs = search needs
 
@@ -78,14 +75,18 @@ loop-again c =
     (p .before .before .wrapping-add-u643 .ensures) (p .before .wrapping-mul3 .ensures) (p .wrapping-add-u644 .ensures)
     (c .before .before .chosen .ensures) (c .before .chosen2 .ensures) (c .chosen3 .ensures)
 
-sub-t22 : tie.Need-sub-t22 Inv-loop μ-loop
-sub-t22 c = search needs
+sub-t21 : tie.Need-sub-t21 Inv-loop μ-loop
+sub-t21 c = search needs
+
+alpha-requires-4 : tie.Need-alpha-requires-4 Inv-loop μ-loop
+alpha-requires-4 c κs = search needs
 
 returns : tie.Need-returns Inv-loop μ-loop
 returns c =
-    let a = c .before .before in
-    loop-stops (a .before .before .loop .inv) (a .before .loop-test .taken) (a .alpha2 .ensures) (c .before .if1 .left)
-    (c .if2 .taken)
+    let stop = c .before in
+    let a = stop .before .before in
+    loop-stops (a .before .before .loop .inv) (a .before .loop-test .taken) (a .alpha2 .ensures) (stop .before .if1 .left)
+    (stop .if2 .taken) (c .alpha4 .ensures)
 
 loop-less-2 : tie.Need-loop-less-2 Inv-loop μ-loop
 loop-less-2 c = search needs
@@ -96,8 +97,11 @@ loop-again-2 c =
     loop-stays (a .before .before .loop .inv) (a .before .loop-test .taken) (a .alpha2 .ensures) (c .before .if1 .left)
     (c .if2 .left)
 
+alpha-requires-5 : tie.Need-alpha-requires-5 Inv-loop μ-loop
+alpha-requires-5 c κs = search needs
+
 returns-2 : tie.Need-returns-2 Inv-loop μ-loop
-returns-2 c = loop-done (c .before .loop .inv) (c .loop-test .left)
+returns-2 c = loop-done (c .before .before .loop .inv) (c .before .loop-test .left) (c .alpha5 .ensures)
 
 pub settle-spec : {M : Type 1} → statement M
 settle-spec =
@@ -118,14 +122,15 @@ settle-spec =
     wrapping-add-u64-requires-3
     wrapping-mul-requires-3
     wrapping-add-u64-requires-4
-    add-e
     chosen-requires
     chosen-requires-2
     chosen-requires-3
     loop-less
     loop-again
-    sub-t22
+    sub-t21
+    alpha-requires-4
     returns
     loop-less-2
     loop-again-2
+    alpha-requires-5
     returns-2)

@@ -1,4 +1,4 @@
--- `lookup::search::earliest` meets its contract: the loop is a walk that seeks the first run that shows y, and one that meets
+-- `lookup::location::earliest` meets its contract: the loop is a walk that seeks the first run that shows y, and one that meets
 -- no line that is refused.
 use Prim.Native.Nat.{_-_}
 use native.Mathlib.Omega.{arith}
@@ -7,8 +7,8 @@ use Rattle.archive.proofs.Folding.{Fold, fold-start}
 use Rattle.archive.proofs.Checking.{refusing}
 use Rattle.archive.proofs.Runs.{run-advances, run-accepted, run-next}
 use Rattle.lookup.proofs.Walk.{showing, look-next, look-found, look-end}
-use Rattle.lookup.proofs.search.earliest.Statement.{statement}
-use Rattle.lookup.proofs.search.earliest.Tie as tie
+use Rattle.lookup.proofs.location.earliest.Statement.{statement}
+use Rattle.lookup.proofs.location.earliest.Tie as tie
 
 abbrev Inv-loop : tie.InvT-loop
 Inv-loop archive y at₀ number₀ at number =

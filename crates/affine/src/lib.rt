@@ -117,36 +117,9 @@ fn finish(a: u64, c: u64, factor: u64, offset: u64, left: u64) -> Affine
     )
 }
 
-// The map of i steps of "times a, plus c". The first eight rounds are made here, where nothing is done yet: the compiler then
-// leaves products out, and a small index needs no call of `finish`.
+// The map of i steps of "times a, plus c".
 pub fn jump(a: u64, c: u64, i: u64) -> Affine
     ensures { λ r. ⌜ Jumps a c i r ⌝ }
 {
-    let identity = Affine {
-        factor: 1,
-        offset: 0,
-    };
-    if i == 0 {
-        return identity;
-    }
-    let step = Affine {
-        factor: a,
-        offset: c,
-    };
-    let start = Progress {
-        stride: step,
-        done: identity,
-        left: i,
-    };
-    let p = eight_rounds(start);
-    if p.left == 0 {
-        return p.done;
-    }
-    finish(
-        p.stride.factor,
-        p.stride.offset,
-        p.done.factor,
-        p.done.offset,
-        p.left,
-    )
+    finish(a, c, 1, 0, i)
 }

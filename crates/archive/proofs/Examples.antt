@@ -10,10 +10,8 @@ use Rattle.fields.specs.Line.{fieldsLine, numbersFrom, isLine}
 use Rattle.runs.proofs.Examples.{run}
 use Rattle.runs.specs.Run.{runRefusal}
 use Rattle.lines.specs.ReadLine.{readOf}
-use Rattle.archive.specs.declared.Part.{Part}
-use Rattle.archive.specs.Archive.{linesOf, runsIn, archiveOf, numbered}
+use Rattle.archive.specs.Archive.{linesOf, runsIn, archiveOf}
 use Rattle.archive.specs.Check.{refusedAt, isAmong, firstRefused, checkOf}
-use Rattle.archive.specs.Line.{lineAt, partFrom, partOf}
 
 abbrev pub two : List ℕ
 two = ascii "4,5,3,1,0,16\n10,371,995,73,100,8\n"
@@ -95,21 +93,3 @@ twin-checks = refl
 -- the whole archive is checked first: an equal last line, a bad one, and a run of count 0 in line 1
 abbrev pub refused : List (List ℕ)
 refused = (two ++ ascii "4,5,3,1,0,16\n") ∷ (two ++ ascii "4,5,3\n") ∷ ascii "4,5,3,1,0,0\n\n" ∷ []
-
-abbrev part : ℕ → ℕ → Part
-part start length = record { start = start; length = length }
-
--- the lines by number, and their parts; of a refused archive none
-numbers : map (lineAt two) (0 ∷ 1 ∷ 2 ∷ 3 ∷ []) ≡ [] ∷ ascii "4,5,3,1,0,16\n" ∷ ascii "10,371,995,73,100,8\n" ∷ [] ∷ []
-unfolding lineAt numbered
-    checkOf firstRefused isAmong linesOf readOf isLine numbersFrom fieldsLine digitsOf lastDigits runRefusal refusalOf modulus
-numbers = refl
-
-parts : map (partOf two) (0 ∷ 1 ∷ 2 ∷ 3 ∷ []) ≡ part 0 0 ∷ part 0 13 ∷ part 13 20 ∷ part 0 0 ∷ []
-unfolding partOf partFrom
-    checkOf firstRefused isAmong linesOf readOf isLine numbersFrom fieldsLine digitsOf lastDigits runRefusal refusalOf modulus
-parts = refl
-
-refused-lines : map (λ bytes. lineAt bytes 1) ((two ++ ascii "\n") ∷ (two ++ two) ∷ []) ≡ [] ∷ [] ∷ []
-unfolding lineAt checkOf firstRefused isAmong linesOf readOf isLine numbersFrom fieldsLine digitsOf lastDigits runRefusal refusalOf modulus
-refused-lines = refl

@@ -1,4 +1,4 @@
--- The crates above cite `Splitting`, `Folding`, `Checking`, `Runs`, `PartOfLine` and `Examples` too.
+-- The crates above cite `Splitting`, `Folding`, `Checking`, `Runs` and `Examples` too.
 pub mod Splitting
 pub mod Folding
 mod Twins
@@ -7,5 +7,4 @@ pub mod Checking
 mod TwinRefusal
 mod LineByLine
 pub mod Runs
-pub mod PartOfLine
 pub mod Examples

@@ -2,6 +2,5 @@
 -- cited by functions behind them only.
 pub mod Archive
 pub mod Check
-pub mod Line
 pub mod Parts
 pub mod Chained

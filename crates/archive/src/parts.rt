@@ -3,10 +3,7 @@ ghost use mathlib.Core.Path.{_≡_};
 ghost use Prim.Native.Nat.{_+_, _<_};
 ghost use lib.ListN.{length, drop};
 ghost use Rattle.lines.specs.ReadLine.{readOf};
-ghost use Rattle.archive.specs.Check.{checkOf};
-ghost use Rattle.archive.specs.Line.{PartPromise};
 ghost use Rattle.archive.specs.Parts.{firstPart, LineRun};
-use crate::Part;
 use lines::accepted::accepted_run;
 use runs::Run;
 
@@ -41,29 +38,5 @@ pub fn next_run(archive: &[u8], at: usize) -> NextRun
     NextRun {
         run: accepted_run(&archive[at..end]),
         end,
-    }
-}
-
-// The part that the line with that number of an accepted archive is; the empty part if there is no such line.
-pub fn part_of_line(archive: &[u8], number: u64) -> Part
-    requires { ⌜ checkOf (now archive) .refusal ≡ 0 ⌝ }
-    ensures { λ r. ⌜ PartPromise (now (archive .entry)) number r ⌝ }
-{
-    let mut at = 0;
-    let mut k = 1;
-    while at < archive.len() {
-        let end = part_end(archive, at);
-        if k == number {
-            return Part {
-                start: at,
-                length: end - at,
-            };
-        }
-        at = end;
-        k += 1;
-    }
-    Part {
-        start: 0,
-        length: 0,
     }
 }

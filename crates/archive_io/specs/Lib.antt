@@ -1,7 +1,5 @@
 -- What the contracts of this crate and of the programs' crates cite. It has to be believed of the programs, but for what `Input`
 -- says of how many bytes are enough.
 pub mod Source
-pub mod Question
-pub mod Notice
 pub mod Decision
 pub mod Input

@@ -1,4 +1,3 @@
-// What the programs over an archive share: reading standard input and the file, the question, and the words printed.
+// Reading standard input and the file, and printing.
 pub mod input;
-pub mod notice;
-pub mod question;
+pub mod output;

@@ -14,10 +14,10 @@ ghost use Rattle.lines.specs.ReadLine.{ReadPromise};
 ghost use Rattle.lines.specs.WriteLine.{WritePromise};
 ghost use Rattle.variety.specs.Variety.{VarietyPromise};
 ghost use Rattle.remake.specs.Remake.{RemakePromise};
-ghost use Rattle.archive.specs.Line.{PartPromise};
+ghost use Rattle.archive_line.specs.Line.{PartPromise};
 ghost use Rattle.lookup.specs.Lookup.{LookupPromise};
 ghost use Rattle.summary.specs.Summary.{SummaryPromise};
-use archive::Part;
+use archive_line::Part;
 use gaps::GapReply;
 use gaps::plain::of_gap;
 use generator::Generator;
@@ -130,7 +130,7 @@ pub extern "C" fn np_remake(run: Run, position: u64, values: &mut [u64]) -> Valu
 pub extern "C" fn np_line(archive: &[u8], line: u64) -> Part
     ensures { λ r. ⌜ PartPromise (now (archive .entry)) line r ⌝ }
 {
-    archive::line_part(archive, line)
+    archive_line::line_part(archive, line)
 }
 
 // The earliest place in the archive that shows the value.

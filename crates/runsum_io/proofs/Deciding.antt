@@ -19,15 +19,15 @@ use Rattle.archive.proofs.Checking.{check-lines}
 use Rattle.summary.proofs.Summaries.{summary-long, summary-sums}
 use Rattle.archive_io.specs.declared.input.Rest.{Rest}
 use Rattle.archive_io.specs.declared.input.Rest.the-variants.{Nothing, Unknown, Failed}
-use Rattle.archive_io.specs.declared.notice.Notice.the-variants.{Refused, Unread}
-use Rattle.archive_io.specs.Notice.{noticeLine}
+use Rattle.notices.specs.declared.Notice.the-variants.{Refused, Unread}
+use Rattle.notices.specs.Notice.{noticeLine}
 use Rattle.archive_io.specs.Input.{Enough}
 use Rattle.archive_io.specs.Decision.{Decided}
 use Rattle.archive_io.proofs.Deciding.{source-some, decided-all, decided-front, decided-unread}
-use Rattle.archive_io.proofs.FrontWriting.{front-within}
-use Rattle.runsum_io.specs.Text.{summaryText}
+use Rattle.fields.proofs.FrontWriting.{front-within}
+use Rattle.runsum_text.specs.Text.{summaryText}
 use Rattle.runsum_io.specs.Output.{outputOf, outputFor, OutputPromise}
-use Rattle.runsum_io.proofs.Lengths.{text-short}
+use Rattle.runsum_text.proofs.Lengths.{text-short}
 
 -- By the reply.
 output-text : (bytes : List ℕ) → summaryOf bytes .refusal ≡ 0 → outputOf bytes ≡ summaryText bytes

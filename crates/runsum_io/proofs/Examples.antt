@@ -16,7 +16,7 @@ use Rattle.archive.specs.Archive.{linesOf}
 use Rattle.archive.specs.Check.{isAmong, firstRefused, checkOf}
 use Rattle.summary.specs.Summary.{totalOf, runsSummary, summaryOf}
 use Rattle.archive_io.specs.Source.{holds, unreadable}
-use Rattle.runsum_io.specs.Text.{runsText, summaryText}
+use Rattle.runsum_text.specs.Text.{runsText, summaryText}
 use Rattle.runsum_io.specs.Output.{outputOf, outputFor}
 
 -- document 01's archive and the empty one; an even multiplier and width 0; a bad line, behind a sum of 2^64 too; that sum

@@ -1,3 +1,2 @@
 -- What the contracts of this crate cite, and what has to be believed of the program.
-pub mod Text
 pub mod Output

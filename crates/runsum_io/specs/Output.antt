@@ -4,10 +4,10 @@ use Prim.Native.Nat.{ℕ, zero, suc}
 use Rattle.fields.specs.Codec.{FrontWritten}
 use Rattle.summary.specs.Summary.{summaryOf}
 use Rattle.archive_io.specs.declared.input.Rest.{Rest}
-use Rattle.archive_io.specs.declared.notice.Notice.the-variants.{Refused, Unread}
-use Rattle.archive_io.specs.Notice.{noticeLine}
+use Rattle.notices.specs.declared.Notice.the-variants.{Refused, Unread}
+use Rattle.notices.specs.Notice.{noticeLine}
 use Rattle.archive_io.specs.Source.{Source, holds, unreadable, ReadOf}
-use Rattle.runsum_io.specs.Text.{summaryText}
+use Rattle.runsum_text.specs.Text.{summaryText}
 
 -- The text of an archive that the summary accepts; else the line that says why there is none.
 unfoldable pub outputOf : List ℕ → List ℕ

@@ -30,7 +30,7 @@ fn lookup(archive: &[u8], number: u64) -> Reply {
 }
 
 fn line(archive: &[u8], number: u64) -> Reply {
-    let part = archive::line_part(archive, number);
+    let part = archive_line::line_part(archive, number);
     Reply::Two(part.start as u64, part.length as u64)
 }
 

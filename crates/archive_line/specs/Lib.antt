@@ -1,0 +1,2 @@
+-- What has to be believed of the calls.
+pub mod Line

@@ -1,0 +1,2 @@
+-- What reading the question shows.
+mod Asking

@@ -1,0 +1,3 @@
+// What the program `runfind` answers, by the bytes that were read.
+pub mod answer;
+pub mod decision;

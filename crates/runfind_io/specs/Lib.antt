@@ -1,3 +1,0 @@
--- What the contracts of this crate cite, and what has to be believed of the program.
-pub mod Output
-pub mod Decision

@@ -1,0 +1,49 @@
+// The question and the outcome, by the bytes read.
+ghost use Prim.Native.Nat.{_≤_};
+ghost use lib.ListN.{length, take};
+ghost use Rattle.archive_io.specs.Decision.{Asked, Decided};
+ghost use Rattle.archive_io.specs.Input.{Filled};
+ghost use Rattle.runshow_answer.specs.Decision.{askedOf, outcomeFor};
+ghost use Rattle.runshow_answer.specs.declared.decision.Question.the-variants.{Numbers};
+use crate::answer::answer;
+use archive_io::input::LastRead;
+use archive_io::input::Rest;
+use notices::Notice;
+use questions::ask;
+use runshow_output::Outcome;
+
+// The number of a line, a position and how many numbers are to be shown from there on, or that there is no question.
+pub enum Question {
+    Numbers(u64, u64, u64),
+    Malformed,
+}
+
+// The question that standard input holds: three fields. It has at most 63 bytes, so 64 show that it is none.
+pub fn asked(input: &[u8], last: LastRead) -> Question
+    requires { ⌜ 64 ≤ length (now input) ⌝ }
+    requires { ⌜ Filled (now input) last ⌝ }
+    ensures { λ r. ⌜ Asked askedOf (take (last .reading .n) (now (input .entry))) (last .reading .rest) r ⌝ }
+{
+    let mut numbers = [0u64; 3];
+    if !ask(input, last, &mut numbers) {
+        return Question::Malformed;
+    }
+    Question::Numbers(numbers[0], numbers[1], numbers[2])
+}
+
+// The outcome for a question, by the bytes read of the file. An archive has at most 65,536 bytes, so 65,537 show that it is
+// too long.
+pub fn decide(line: u64, first: u64, many: u64, archive: &[u8], last: LastRead) -> Outcome
+    requires { ⌜ 65537 ≤ length (now archive) ⌝ }
+    requires { ⌜ Filled (now archive) last ⌝ }
+    ensures { λ r. ⌜ Decided (outcomeFor (Numbers line first many)) (take (last .reading .n) (now (archive .entry))) (last .reading .rest) r ⌝ }
+{
+    let reading = last.reading;
+    let n = reading.n;
+    let rest = reading.rest;
+    match rest {
+        Rest::Nothing => answer(&archive[..n], line, first, many),
+        Rest::Unknown => answer(&archive[..n], line, first, many),
+        Rest::Failed => Outcome::Told(Notice::Unread),
+    }
+}

@@ -1,0 +1,3 @@
+// What the program `runshow` answers, by the bytes that were read.
+pub mod answer;
+pub mod decision;

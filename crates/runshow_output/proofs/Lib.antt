@@ -1,0 +1,2 @@
+-- What the ways out of the loop show.
+mod Printing

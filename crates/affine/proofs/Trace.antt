@@ -5,7 +5,7 @@
 -- the map of all i steps.
 use mathlib.Core.Path.{_≡_, refl, sym, ap, subst, _∙_}
 use mathlib.Core.Logic.{by-cases}
-use Prim.Native.Nat.{ℕ, zero, suc, _+_, _*_, _/_, _%_, _^_}
+use Prim.Native.Nat.{ℕ, zero, suc, _+_, _*_, _/_, _%_, _^_, _≤_}
 use native.Mathlib.Decide.{ℕ-discrete}
 use native.Mathlib.Nat.{add-zero, add-suc}
 use native.Mathlib.Omega.{arith}
@@ -99,6 +99,11 @@ pub rounded-add : {j k : ℕ} {p q r : Progress} → Rounded j p q → Rounded k
 rounded-add {j} {p = p} {q = q} f none = subst (λ (n : ℕ). Rounded n p q) (sym (add-zero j)) f
 rounded-add {j} {p = p} {r = r} f (next {k} g h) =
     subst (λ (n : ℕ). Rounded n p r) (sym (add-suc j k)) (next (rounded-add f g) h)
+
+-- the index does not grow
+pub rounded-within : {k : ℕ} {p q : Progress} → Rounded k p q → q .left ≤ p .left
+rounded-within none = omega arith
+rounded-within (next t h) = omega (arith, rounded-within t, h .left)
 
 -- the trace: of every row of states in which each next one meets what `round` ensures
 pub row-rounded : {a c i : ℕ} {state : ℕ → Progress} → Row a c i state → (k : ℕ) → Rounded k (startOf a c i) (state k)

@@ -54,8 +54,8 @@ low :
 unfolding rowOf
 low = refl
 
--- the jump ends after 16 rounds, by eight at a time; the last six are at index 0 and leave what is done
-ends : rowOf 371 995 1000 16 .done ≡ rowOf 371 995 1000 10 .done
+-- the jump ends after 12 rounds, by four at a time; the last two are at index 0 and leave what is done
+ends : rowOf 371 995 1000 12 .done ≡ rowOf 371 995 1000 10 .done
 unfolding rowOf
 ends = refl
 
@@ -71,7 +71,7 @@ performed =
       result = refl;
     }
 
--- a jump of no step ends before the first round, and eight rounds would not change it
-none : map (λ k. rowOf 1 1 0 k .done) (0 ∷ 8 ∷ []) ≡ identity ∷ identity ∷ []
+-- a jump of no step ends before the first round, and four rounds would not change it
+none : map (λ k. rowOf 1 1 0 k .done) (0 ∷ 4 ∷ []) ≡ identity ∷ identity ∷ []
 unfolding rowOf
 none = refl

@@ -65,6 +65,11 @@ pub record Traced (a c i k : ℕ) (p : Progress) : Type 0 where
   pub done : Walks a c (i % 2 ^ k) (p .done)
   pub left : p .left ≡ i / 2 ^ k
 
+-- For the functions behind the jump. r is p some rounds later.
+pub record Onward (p r : Progress) : Type 0 where
+  pub rounds : ℕ
+  pub rounded : Rounded rounds p r
+
 -- For the laws. r is f followed by n steps of "times a, plus c".
 pub record Continues (a c n : ℕ) (f r : Affine) : Type 0 where
   pub continues : (x : ℕ) → apply r x % 2 ^ 64 ≡ iterate a c n (apply f x) % 2 ^ 64

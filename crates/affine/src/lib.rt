@@ -2,7 +2,7 @@
 ghost use mathlib.Core.Path.{_≡_};
 ghost use Prim.Native.Nat.{_%_, _^_};
 ghost use Rattle.affine.specs.Affine.{Composes, apply};
-ghost use Rattle.affine.specs.Trace.{Jumps, OneRound, Performed, Rounded, progressOf, selectedOf};
+ghost use Rattle.affine.specs.Trace.{Jumps, OneRound, Onward, Performed, Rounded, progressOf, selectedOf};
 use std::num::wrapping_add_u64;
 use words::wrapping_mul;
 
@@ -64,21 +64,42 @@ pub fn round(p: Progress) -> Progress
     }
 }
 
-// Four rounds, and eight, in one body.
+// Four rounds in one body.
 fn four_rounds(p: Progress) -> Progress
     ensures { λ r. ⌜ Rounded 4 p r ⌝ }
 {
     round(round(round(round(p))))
 }
 
-fn eight_rounds(p: Progress) -> Progress
-    ensures { λ r. ⌜ Rounded 8 p r ⌝ }
+// Up to 24 rounds, four at a time, as long as some index is left.
+fn rounds_on(p: Progress) -> Progress
+    ensures { λ r. ⌜ Onward p r ⌝ }
 {
-    four_rounds(four_rounds(p))
+    let p4 = four_rounds(p);
+    if p4.left == 0 {
+        return p4;
+    }
+    let p8 = four_rounds(p4);
+    if p8.left == 0 {
+        return p8;
+    }
+    let p12 = four_rounds(p8);
+    if p12.left == 0 {
+        return p12;
+    }
+    let p16 = four_rounds(p12);
+    if p16.left == 0 {
+        return p16;
+    }
+    let p20 = four_rounds(p16);
+    if p20.left == 0 {
+        return p20;
+    }
+    four_rounds(p20)
 }
 
 // The map "times factor, plus offset", followed by as many steps of "times a, plus c" as are left, down to index 0: up to 32
-// rounds a call, with a return after each eight once nothing is left. Rounds at index 0 leave the map done as it is. A call
+// rounds a call, with a return after each four once nothing is left. Rounds at index 0 leave the map done as it is. A call
 // hands its map back through memory, so few are made; the numbers go to it in registers, where a struct would go through
 // memory too.
 fn finish(a: u64, c: u64, factor: u64, offset: u64, left: u64) -> Affine
@@ -92,19 +113,15 @@ fn finish(a: u64, c: u64, factor: u64, offset: u64, left: u64) -> Affine
         factor: a,
         offset: c,
     };
-    let p8 = eight_rounds(Progress { stride, done, left });
+    let p4 = four_rounds(Progress { stride, done, left });
+    if p4.left == 0 {
+        return p4.done;
+    }
+    let p8 = four_rounds(p4);
     if p8.left == 0 {
         return p8.done;
     }
-    let p16 = eight_rounds(p8);
-    if p16.left == 0 {
-        return p16.done;
-    }
-    let p24 = eight_rounds(p16);
-    if p24.left == 0 {
-        return p24.done;
-    }
-    let p = eight_rounds(p24);
+    let p = rounds_on(p8);
     if p.left == 0 {
         return p.done;
     }

@@ -100,19 +100,16 @@ fn rounds_on(p: Progress) -> Progress
 
 // The map "times factor, plus offset", followed by as many steps of "times a, plus c" as are left, down to index 0: up to 32
 // rounds a call, with a return after each four once nothing is left. Rounds at index 0 leave the map done as it is. A call
-// hands its map back through memory, so few are made; the numbers go to it in registers, where a struct would go through
-// memory too.
+// hands its map back through memory, so few are made, and what comes back has a name of its own, or every return would go
+// that way; the numbers go to it in registers, where a struct would go through memory too.
 fn finish(a: u64, c: u64, factor: u64, offset: u64, left: u64) -> Affine
     ensures { λ r. ⌜ Performed (progressOf a c factor offset left) r ⌝ }
 {
-    let done = Affine { factor, offset };
-    if left == 0 {
-        return done;
-    }
     let stride = Affine {
         factor: a,
         offset: c,
     };
+    let done = Affine { factor, offset };
     let p4 = four_rounds(Progress { stride, done, left });
     if p4.left == 0 {
         return p4.done;
@@ -125,18 +122,25 @@ fn finish(a: u64, c: u64, factor: u64, offset: u64, left: u64) -> Affine
     if p.left == 0 {
         return p.done;
     }
-    finish(
+    let rest = finish(
         p.stride.factor,
         p.stride.offset,
         p.done.factor,
         p.done.offset,
         p.left,
-    )
+    );
+    rest
 }
 
 // The map of i steps of "times a, plus c".
 pub fn jump(a: u64, c: u64, i: u64) -> Affine
     ensures { λ r. ⌜ Jumps a c i r ⌝ }
 {
+    if i == 0 {
+        return Affine {
+            factor: 1,
+            offset: 0,
+        };
+    }
     finish(a, c, 1, 0, i)
 }

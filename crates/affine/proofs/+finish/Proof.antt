@@ -1,5 +1,5 @@
--- `affine::finish` meets its contract: with no index left, at the beginning, after 4 or 8 rounds or after those that follow, all
--- is done; otherwise it goes on with what these leave. The measure is the index left.
+-- `affine::finish` meets its contract: with no index left after 4 or 8 rounds or after those that follow, all is done; otherwise it
+-- goes on with what these leave. The measure is the index left.
 use Prim.Native.Nat.{ℕ, _<_}
 use native.Mathlib.Omega.{arith}
 use borrow.Fn.Kinds.{In}
@@ -35,40 +35,38 @@ start t s = progressOf (s .args .a) (s .args .c) (s .args .factor) (s .args .off
 
 after-4 :
     (t : ℕ) (b : finish-lts.After-four-rounds (callees t) (finish-at t) finish.Post) →
-    Rounded 4 (start t (b .before .before)) (b .four-rounds .result)
+    Rounded 4 (start t (b .before)) (b .four-rounds .result)
 after-4 t b = b .four-rounds .ensures
 
 after-8 :
     (t : ℕ) (b : finish-lts.After-four-rounds2 (callees t) (finish-at t) finish.Post) →
-    Rounded 8 (start t (b .before .before .before .before .before)) (b .four-rounds2 .result)
+    Rounded 8 (start t (b .before .before .before .before)) (b .four-rounds2 .result)
 after-8 t b = rounded-add (after-4 t (b .before .before .before)) (b .four-rounds2 .ensures)
-
-finish-returns : (t : ℕ) → finish-lts.Need-returns (callees t) (finish-at t) finish.Post
-finish-returns t c = performed-now _ (c .if1 .taken)
 
 finish-four-rounds-requires : (t : ℕ) → finish-lts.Need-four-rounds-requires (callees t) (finish-at t) finish.Post
 finish-four-rounds-requires t c κs = tt
 
-finish-returns-2 : (t : ℕ) → finish-lts.Need-returns-2 (callees t) (finish-at t) finish.Post
-finish-returns-2 t c =
-    performed-later (after-4 t (c .before .before .before)) (performed-now _ (c .before .if2 .taken))
+finish-returns : (t : ℕ) → finish-lts.Need-returns (callees t) (finish-at t) finish.Post
+finish-returns t c =
+    performed-later (after-4 t (c .before .before .before)) (performed-now _ (c .before .if1 .taken))
 
 finish-four-rounds-requires-2 : (t : ℕ) → finish-lts.Need-four-rounds-requires-2 (callees t) (finish-at t) finish.Post
 finish-four-rounds-requires-2 t c κs = tt
 
-finish-returns-3 : (t : ℕ) → finish-lts.Need-returns-3 (callees t) (finish-at t) finish.Post
-finish-returns-3 t c =
-    performed-later (after-8 t (c .before .before .before)) (performed-now _ (c .before .if3 .taken))
+finish-returns-2 : (t : ℕ) → finish-lts.Need-returns-2 (callees t) (finish-at t) finish.Post
+finish-returns-2 t c =
+    performed-later (after-8 t (c .before .before .before)) (performed-now _ (c .before .if2 .taken))
 
 finish-rounds-on-requires : (t : ℕ) → finish-lts.Need-rounds-on-requires (callees t) (finish-at t) finish.Post
 finish-rounds-on-requires t c κs = tt
 
-finish-returns-4 : (t : ℕ) → finish-lts.Need-returns-4 (callees t) (finish-at t) finish.Post
-finish-returns-4 t c =
+finish-returns-3 : (t : ℕ) → finish-lts.Need-returns-3 (callees t) (finish-at t) finish.Post
+finish-returns-3 t c =
     let on = c .before .before .before in
     performed-later (after-8 t (on .before .before .before))
-    (performed-later (on .rounds-on .ensures .rounded) (performed-now _ (c .before .if4 .taken)))
+    (performed-later (on .rounds-on .ensures .rounded) (performed-now _ (c .before .if3 .taken)))
 
+-- what is left is not 0, and no more than what 8 rounds leave
 finish-finish-requires : (t : ℕ) → finish-lts.Need-finish-requires (callees t) (finish-at t) finish.Post
 finish-finish-requires t c κs =
     let on = c .before .before in
@@ -78,14 +76,14 @@ finish-finish-requires t c κs =
         arith,
         rounded-within (on .rounds-on .ensures .rounded),
         rounded-rounds (after-8 t second) .left,
-        began .if1 .left,
-        began .before .pre .0,
+        c .if3 .left,
+        began .pre .0,
       ),
       tt,
     )
 
-finish-returns-5 : (t : ℕ) → finish-lts.Need-returns-5 (callees t) (finish-at t) finish.Post
-finish-returns-5 t c =
+finish-returns-4 : (t : ℕ) → finish-lts.Need-returns-4 (callees t) (finish-at t) finish.Post
+finish-returns-4 t c =
     let on = c .before .before .before in
     performed-later (after-8 t (on .before .before .before))
     (performed-later (on .rounds-on .ensures .rounded) (c .finish .ensures))
@@ -94,12 +92,11 @@ pub +finish-spec : {M : Type 1} → statement M
 +finish-spec = close μ-finish λ t. finish-lts.spec (callees t)
     (finish-at t)
     finish.Post
-    (finish-returns t)
     (finish-four-rounds-requires t)
-    (finish-returns-2 t)
+    (finish-returns t)
     (finish-four-rounds-requires-2 t)
-    (finish-returns-3 t)
+    (finish-returns-2 t)
     (finish-rounds-on-requires t)
-    (finish-returns-4 t)
+    (finish-returns-3 t)
     (finish-finish-requires t)
-    (finish-returns-5 t)
+    (finish-returns-4 t)

@@ -5,14 +5,14 @@
 
 LOG is what rt ci printed, SECONDS the processor time that it took. rt ci tells how long each check and each edit took on the
 clock; scaled so that they add up to SECONDS, these are processor times, also on a busy machine. Fails if an edit of some crate
-costs more than BOUND seconds on average, 30 unless given."""
+costs more than BOUND seconds on average, 24 unless given."""
 import re
 import sys
 from collections import defaultdict
 
 
 def main():
-    log, seconds, bound = open(sys.argv[1]).read(), float(sys.argv[2]), float((sys.argv[3:] or ["30"])[0])
+    log, seconds, bound = open(sys.argv[1]).read(), float(sys.argv[2]), float((sys.argv[3:] or ["24"])[0])
     checks = [int(s) for s in re.findall(r"^rt: \w+ proved \((\d+) s\)$", log, re.M)]
     edits = defaultdict(list)
     for name, took in re.findall(r"^rt: must-fail (\w+)/\w+: refused, as it must be \((?:.*; )?(\d+) s\)$", log, re.M):

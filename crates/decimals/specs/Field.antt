@@ -5,8 +5,8 @@ use mathlib.Core.List.{List, _∷_, _++_}
 use Prim.Native.Nat.{ℕ, _+_, _≤_, _<_, _^_}
 use lib.ListN.{length, take, drop}
 use Rattle.decimals.specs.Digits.{digitsOf}
-use Rattle.decimals.specs.declared.Field.{Field}
-use Rattle.decimals.specs.declared.Field.the-variants.{Number, Unreadable}
+use Rattle.decimals.specs.declared.field.Field.{Field}
+use Rattle.decimals.specs.declared.field.Field.the-variants.{Number, Unreadable}
 
 -- the bytes begin with the digits of v and the delimiter, and go on with s from next on
 pub record FieldFound (bytes s : List ℕ) (delimiter v next : ℕ) : Type 0 where

@@ -4,10 +4,10 @@ ghost use Prim.Native.Nat.{_≤_};
 ghost use lib.ListN.{length};
 ghost use Rattle.fields.specs.Codec.{FrontWritten, LineRead};
 ghost use Rattle.fields.specs.Line.{fieldsLine, delimiterBefore};
-use decimals::Field;
-use decimals::field_length;
-use decimals::read_field;
-use decimals::write_field;
+use decimals::field::Field;
+use decimals::field::field_length;
+use decimals::field::read_field;
+use decimals::field::write_field;
 
 // The delimiter of a field that n fields follow.
 fn delimiter_before(n: usize) -> u8

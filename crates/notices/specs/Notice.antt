@@ -3,8 +3,8 @@ use mathlib.Core.List.{List, [], _∷_, _++_}
 use Prim.Native.Nat.{ℕ}
 use Rattle.fields.specs.Line.{fieldsLine}
 use Rattle.fields.specs.Ascii.{ascii}
-use Rattle.notices.specs.declared.Notice.{Notice}
-use Rattle.notices.specs.declared.Notice.the-variants.{NotFound, Refused, BadQuestion, Unread}
+use Rattle.notices.specs.declared.notice.Notice.{Notice}
+use Rattle.notices.specs.declared.notice.Notice.the-variants.{NotFound, Refused, BadQuestion, Unread}
 
 abbrev pub refusedLine : ℕ → ℕ → List ℕ
 refusedLine number line = ascii "refused," ++ fieldsLine (number ∷ line ∷ [])

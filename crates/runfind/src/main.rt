@@ -1,7 +1,7 @@
 // Finds a number in the archive `archive.csv` of the current folder.
 use archive_io::input::read_input;
-use runfind_io::respond;
-use runfind_output::print_outcome;
+use runfind_io::response::respond;
+use runfind_output::output::print_outcome;
 
 fn main() {
     let mut input = [0u8; 22];

@@ -10,8 +10,8 @@ use Rattle.lookup.specs.declared.LookupAnswer.{LookupAnswer}
 use Rattle.lookup.specs.declared.LookupAnswer.the-variants as answer
 use Rattle.lookup.specs.declared.LookupReply.{LookupReply}
 use Rattle.lookup.specs.Lookup.{lookupRefused, plainLookup, lookupOf, LookupPromise}
-use Rattle.notices.specs.declared.Notice.the-variants.{NotFound, Refused}
-use Rattle.runfind_output.specs.declared.Outcome.the-variants.{Location, Told}
+use Rattle.notices.specs.declared.notice.Notice.the-variants.{NotFound, Refused}
+use Rattle.runfind_output.specs.declared.output.Outcome.the-variants.{Location, Told}
 use Rattle.runfind_answer.specs.Decision.{outcomeOf}
 
 refused-told : (n line : ℕ) → (n ≡ 0 → ⊥) → Told (Refused n line) ≡ outcomeOf (lookupRefused n line)

@@ -8,12 +8,12 @@ use lib.ListN.{length, getD}
 use Rattle.lookup.specs.declared.LookupReply.{LookupReply}
 use Rattle.lookup.proofs.EarliestLocation.{lookup-long}
 use Rattle.archive_io.specs.declared.input.Rest.{Rest}
-use Rattle.notices.specs.declared.Notice.the-variants.{Refused}
+use Rattle.notices.specs.declared.notice.Notice.the-variants.{Refused}
 use Rattle.archive_io.specs.Source.{holds}
 use Rattle.questions.specs.Question.{AskPromise}
 use Rattle.archive_io.specs.Decision.{Asked}
 use Rattle.runfind_answer.specs.declared.decision.Question.the-variants.{Number, Malformed}
-use Rattle.runfind_output.specs.declared.Outcome.the-variants.{Told}
+use Rattle.runfind_output.specs.declared.output.Outcome.the-variants.{Told}
 use Rattle.runfind_answer.specs.Decision.{askedOf, outcomeOf, outcomeFor}
 
 module _ {input numbers : List ℕ} {rest : Rest} {answer : Bool} (a : AskPromise input rest 1 numbers answer) where

@@ -4,13 +4,13 @@ use lib.Dec.{eqb}
 use lib.ListN.{getD}
 use Rattle.lookup.specs.declared.LookupReply.{LookupReply}
 use Rattle.lookup.specs.Lookup.{lookupOf}
-use Rattle.notices.specs.declared.Notice.the-variants.{NotFound, Refused, BadQuestion, Unread}
+use Rattle.notices.specs.declared.notice.Notice.the-variants.{NotFound, Refused, BadQuestion, Unread}
 use Rattle.archive_io.specs.Source.{Source, holds, unreadable}
 use Rattle.questions.specs.Question.{isQuestion, numbersAsked}
 use Rattle.runfind_answer.specs.declared.decision.Question.{Question}
 use Rattle.runfind_answer.specs.declared.decision.Question.the-variants.{Number, Malformed}
-use Rattle.runfind_output.specs.declared.Outcome.{Outcome}
-use Rattle.runfind_output.specs.declared.Outcome.the-variants.{Location, Told}
+use Rattle.runfind_output.specs.declared.output.Outcome.{Outcome}
+use Rattle.runfind_output.specs.declared.output.Outcome.the-variants.{Location, Told}
 
 -- A question has one field.
 abbrev pub askedOf : Source → Question

@@ -3,9 +3,9 @@ ghost use mathlib.Core.Path.{_≡_};
 ghost use Rattle.lookup.specs.Lookup.{lookupOf};
 ghost use Rattle.runfind_answer.specs.Decision.{outcomeOf};
 use lookup::LookupAnswer;
-use notices::Notice;
+use notices::notice::Notice;
 use refusals::number;
-use runfind_output::Outcome;
+use runfind_output::output::Outcome;
 
 pub fn answer(bytes: &[u8], value: u64) -> Outcome
     ensures { λ r. ⌜ r ≡ outcomeOf (lookupOf (now (bytes .entry)) value) ⌝ }

@@ -8,9 +8,9 @@ ghost use Rattle.runfind_answer.specs.declared.decision.Question.the-var
 use crate::answer::answer;
 use archive_io::input::LastRead;
 use archive_io::input::Rest;
-use notices::Notice;
-use questions::ask;
-use runfind_output::Outcome;
+use notices::notice::Notice;
+use questions::question::ask;
+use runfind_output::output::Outcome;
 
 // The number sought, or that there is no question.
 pub enum Question {

@@ -1,7 +1,7 @@
 // Shows the numbers of a run in the archive `archive.csv` of the current folder.
 use archive_io::input::read_input;
-use runshow_io::respond;
-use runshow_output::print_outcome;
+use runshow_io::response::respond;
+use runshow_output::output::print_outcome;
 
 fn main() {
     let mut input = [0u8; 64];

@@ -20,9 +20,9 @@ use Rattle.archive.specs.declared.ArchiveCheck.the-variants as verdict
 use Rattle.archive.specs.Check.{CheckReply, refusedAt, plainCheck, checkOf, CheckPromise}
 use Rattle.archive_line.specs.Line.{lineAt, PartPromise}
 use Rattle.archive.proofs.Checking.{check-accepted, long-check}
-use Rattle.notices.specs.declared.Notice.the-variants.{NotFound, Refused}
-use Rattle.runshow_output.specs.declared.Outcome.{Outcome}
-use Rattle.runshow_output.specs.declared.Outcome.the-variants.{Part, Told}
+use Rattle.notices.specs.declared.notice.Notice.the-variants.{NotFound, Refused}
+use Rattle.runshow_output.specs.declared.output.Outcome.{Outcome}
+use Rattle.runshow_output.specs.declared.output.Outcome.the-variants.{Part, Told}
 use Rattle.runshow_answer.specs.Decision.{partOfRun, outcomeOf}
 
 -- The part of a run.

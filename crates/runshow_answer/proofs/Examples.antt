@@ -13,10 +13,10 @@ use Rattle.lines.specs.ReadLine.{readOf}
 use Rattle.archive.specs.Archive.{linesOf, numbered}
 use Rattle.archive.specs.Check.{isAmong, firstRefused, checkOf}
 use Rattle.archive_line.specs.Line.{lineAt}
-use Rattle.notices.specs.declared.Notice.the-variants.{NotFound, Refused, BadQuestion, Unread}
+use Rattle.notices.specs.declared.notice.Notice.the-variants.{NotFound, Refused, BadQuestion, Unread}
 use Rattle.archive_io.specs.Source.{Source, holds, unreadable}
-use Rattle.runshow_output.specs.declared.Outcome.{Outcome}
-use Rattle.runshow_output.specs.declared.Outcome.the-variants.{Part, Told}
+use Rattle.runshow_output.specs.declared.output.Outcome.{Outcome}
+use Rattle.runshow_output.specs.declared.output.Outcome.the-variants.{Part, Told}
 use Rattle.runshow_answer.specs.Decision.{askedOf, outcomeOf, outcomeFor}
 
 abbrev second : List ℕ

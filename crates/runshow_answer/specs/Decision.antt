@@ -8,11 +8,11 @@ use Rattle.runs.specs.declared.Run.{Run}
 use Rattle.lines.specs.ReadLine.{readOf}
 use Rattle.archive.specs.Check.{checkOf}
 use Rattle.archive_line.specs.Line.{lineAt}
-use Rattle.notices.specs.declared.Notice.the-variants.{NotFound, Refused, BadQuestion, Unread}
+use Rattle.notices.specs.declared.notice.Notice.the-variants.{NotFound, Refused, BadQuestion, Unread}
 use Rattle.archive_io.specs.Source.{Source, holds, unreadable}
 use Rattle.questions.specs.Question.{isQuestion, numbersAsked}
-use Rattle.runshow_output.specs.declared.Outcome.{Outcome}
-use Rattle.runshow_output.specs.declared.Outcome.the-variants.{Part, Told}
+use Rattle.runshow_output.specs.declared.output.Outcome.{Outcome}
+use Rattle.runshow_output.specs.declared.output.Outcome.the-variants.{Part, Told}
 use Rattle.runshow_answer.specs.declared.decision.Question.{Question}
 use Rattle.runshow_answer.specs.declared.decision.Question.the-variants.{Numbers, Malformed}
 

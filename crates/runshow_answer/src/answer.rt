@@ -5,10 +5,10 @@ use archive::ArchiveCheck;
 use archive_line::Part;
 use archive_line::by_number::part_of_line;
 use lines::accepted::accepted_run;
-use notices::Notice;
+use notices::notice::Notice;
 use refusals::number;
 use runs::Run;
-use runshow_output::Outcome;
+use runshow_output::output::Outcome;
 
 // The numbers of `many` positions of a run, from position `first` on.
 pub fn part_of_run(run: Run, first: u64, many: u64) -> Outcome

@@ -8,9 +8,9 @@ ghost use Rattle.runshow_answer.specs.declared.decision.Question.the-var
 use crate::answer::answer;
 use archive_io::input::LastRead;
 use archive_io::input::Rest;
-use notices::Notice;
-use questions::ask;
-use runshow_output::Outcome;
+use notices::notice::Notice;
+use questions::question::ask;
+use runshow_output::output::Outcome;
 
 // The number of a line, a position and how many numbers are to be shown from there on, or that there is no question.
 pub enum Question {

@@ -3,9 +3,9 @@ use mathlib.Core.Path.{_≡_}
 use mathlib.Core.Bool.{true}
 use Prim.Native.Nat.{ℕ}
 use Rattle.runshow_text.specs.Text.{partDue}
-use Rattle.runshow_output.specs.declared.Outcome.{Outcome}
-use Rattle.runshow_output.specs.declared.Outcome.the-variants.{Part, Told}
-use Rattle.runshow_output.specs.declared.Shown.{Shown}
+use Rattle.runshow_output.specs.declared.output.Outcome.{Outcome}
+use Rattle.runshow_output.specs.declared.output.Outcome.the-variants.{Part, Told}
+use Rattle.runshow_output.specs.declared.output.Shown.{Shown}
 
 abbrev pub outcomeDue : Outcome → ℕ
 outcomeDue (Part run first many) = partDue run first many

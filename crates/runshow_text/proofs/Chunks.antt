@@ -19,7 +19,7 @@ use Rattle.runs.specs.Run.{shows, runRefusal}
 use Rattle.remake.specs.Remake.{shownFrom, remadeCount, RemakePromise}
 use Rattle.runs.proofs.Runs.{valid-run}
 use Rattle.runshow_text.specs.Text.{numbersLines, textFrom, dueOf, partDue, ChunkPromise}
-use Rattle.runshow_text.specs.declared.Chunk.{Chunk}
+use Rattle.runshow_text.specs.declared.text.Chunk.{Chunk}
 use Rattle.runshow_text.proofs.Writing.{numbers-short}
 
 -- What positions show.

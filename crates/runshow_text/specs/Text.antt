@@ -8,7 +8,7 @@ use Rattle.fields.specs.Codec.{FrontWritten}
 use Rattle.runs.specs.declared.Run.{Run}
 use Rattle.runs.specs.Run.{runRefusal}
 use Rattle.remake.specs.Remake.{shownFrom}
-use Rattle.runshow_text.specs.declared.Chunk.{Chunk}
+use Rattle.runshow_text.specs.declared.text.Chunk.{Chunk}
 
 -- Each number as a line of its own.
 unfoldable pub numbersLines : List ℕ → List ℕ

@@ -19,7 +19,7 @@ use Rattle.archive.proofs.Checking.{check-lines}
 use Rattle.summary.proofs.Summaries.{summary-long, summary-sums}
 use Rattle.archive_io.specs.declared.input.Rest.{Rest}
 use Rattle.archive_io.specs.declared.input.Rest.the-variants.{Nothing, Unknown, Failed}
-use Rattle.notices.specs.declared.Notice.the-variants.{Refused, Unread}
+use Rattle.notices.specs.declared.notice.Notice.the-variants.{Refused, Unread}
 use Rattle.notices.specs.Notice.{noticeLine}
 use Rattle.archive_io.specs.Input.{Enough}
 use Rattle.archive_io.specs.Decision.{Decided}

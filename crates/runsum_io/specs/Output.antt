@@ -4,7 +4,7 @@ use Prim.Native.Nat.{ℕ, zero, suc}
 use Rattle.fields.specs.Codec.{FrontWritten}
 use Rattle.summary.specs.Summary.{summaryOf}
 use Rattle.archive_io.specs.declared.input.Rest.{Rest}
-use Rattle.notices.specs.declared.Notice.the-variants.{Refused, Unread}
+use Rattle.notices.specs.declared.notice.Notice.the-variants.{Refused, Unread}
 use Rattle.notices.specs.Notice.{noticeLine}
 use Rattle.archive_io.specs.Source.{Source, holds, unreadable, ReadOf}
 use Rattle.runsum_text.specs.Text.{summaryText}

@@ -132,7 +132,7 @@ fn finish(a: u64, c: u64, factor: u64, offset: u64, left: u64) -> Affine
     rest
 }
 
-// The map of i steps of "times a, plus c".
+// The map of i steps of "times a, plus c". No step takes no round.
 pub fn jump(a: u64, c: u64, i: u64) -> Affine
     ensures { λ r. ⌜ Jumps a c i r ⌝ }
 {

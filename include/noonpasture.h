@@ -11,7 +11,8 @@
  *
  * Any numbers and any bytes may be passed: nothing has to be checked beforehand. A pointer must
  * be good for the length that comes with it; a null pointer is good with length 0. No call
- * allocates, keeps a pointer or has a state, so all of them may run at once in several threads.
+ * allocates, keeps a pointer or has a state of its own, so all of them may run at once in several
+ * threads; a player's record is its caller's, and only one call at a time may be given it.
  *
  * The first field of a reply is the refusal: 0, or the lowest NP_REFUSED_.. that applies; for an
  * archive the order is said at their list. Beside a refusal every other field is 0 (but for the
@@ -27,12 +28,13 @@
 extern "C" {
 #endif
 
-#define NP_VERSION "0.11.0"
+#define NP_VERSION "0.12.0"
 
 #define NP_LINE_MAX 107       /* no line of a run is longer, its byte 10 included */
 #define NP_ARCHIVE_MAX 65536  /* no accepted archive is longer */
 
-/* Why a call is refused. In an archive 1 comes first, then line by line 2, 3, 4, 5, 11, then 10. */
+/* Why a call is refused. In an archive 1 comes first, then line by line 2, 3, 4, 5, 11, then 10. In a return to
+ * a mark 12 of the position held comes first, then 13, then 12 of the mark's position. */
 enum {
     NP_REFUSED_ARCHIVE_TOO_LONG = 1,      /* more than NP_ARCHIVE_MAX bytes */
     NP_REFUSED_MALFORMED_LINE = 2,        /* bytes that are not a valid line: a field that is no
@@ -49,8 +51,11 @@ enum {
     NP_REFUSED_BUFFER_TOO_SHORT = 8,      /* the buffer is shorter than the line */
     NP_REFUSED_PLACES_OUT_OF_RANGE = 9,   /* 0 places, or more than the width has: at width 0 always */
     NP_REFUSED_TOTAL_OVERFLOW = 10,       /* summary of an archive whose counts sum to more than 2^64 - 1 */
-    NP_REFUSED_DUPLICATE_LINE = 11        /* a line of an archive equals an earlier one, byte by byte; the line
+    NP_REFUSED_DUPLICATE_LINE = 11,       /* a line of an archive equals an earlier one, byte by byte; the line
                                              given is the later of the two */
+    NP_REFUSED_POSITION_OUT_OF_RANGE = 12,/* a player's position, held or resulting, is below 0 or not below the
+                                             run's count; a mark's counts only when it is returned to */
+    NP_REFUSED_BOOKMARK_INVALID = 13      /* a mark above 3, or a return to an unset one */
 };
 
 typedef struct { uint64_t width, multiplier, increment, seed; } np_generator;
@@ -68,6 +73,9 @@ typedef struct { uint64_t refusal, line, found, position; } np_lookup_reply;  /*
 typedef struct { uint64_t start, length; } np_part;                           /* length 0: the empty part */
 /* line: the one that a refusal 2 to 5 or 11 concerns, else 0 */
 typedef struct { uint64_t refusal, line, line_count, total; } np_summary_reply;
+
+typedef struct { uint64_t set, position; } np_mark;                           /* set 0: unset; any other number: set */
+typedef struct { np_run run; uint64_t position; np_mark marks[4]; } np_player;
 
 /* The element at an index, any from 0 to 2^64 - 1. Refusals 3, 4. */
 np_value        np_element(np_generator g, uint64_t index);
@@ -133,6 +141,33 @@ np_lookup_reply np_lookup(const uint8_t *archive, size_t length, uint64_t value)
  * Refusals 1 and 10 with line 0; 2, 3, 4, 5, 11 with the number of the refused line. */
 np_summary_reply np_summary(const uint8_t *archive, size_t length);
 
+/* A player plays a run forward and back. Its record is the caller's, and each call but show alters it; a
+ * refused call leaves every byte of it as it was.
+ * Hand in a record of your own, not null, zeroed (np_player player = {0};) or opened before: every call
+ * reads the whole record, open too, and memory that was never written must not be read. Nothing else has to
+ * be checked: any numbers may stand in it. All but show give the refusal, 0 for accepted.
+ *
+ * Opens the run at position 0, with no mark set, whatever the record held. Refusals 3, 4, 5 of that run. */
+uint64_t        np_player_open(np_player *player, np_run run);
+
+/* The other calls first check what the record holds: refusals 3, 4, 5 of its run, then 12 of its position.
+ *
+ * Moves on by so many positions, 0 to 2^64 - 1; no sum wraps. Refusal 12 if that leaves the run. */
+uint64_t        np_player_forward(np_player *player, uint64_t steps);
+
+/* Moves back by so many positions, with an even multiplier too. Refusal 12 if that leaves the run. */
+uint64_t        np_player_back(np_player *player, uint64_t steps);
+
+/* Sets a mark, 0 to 3, to the position held: 1 is written to its field set. Refusal 13 for a mark above 3. */
+uint64_t        np_player_mark(np_player *player, uint64_t mark);
+
+/* Returns to a mark, which stays set. Refusals 13 for a mark above 3 or unset, then 12 for one whose position
+ * is not on the run. */
+uint64_t        np_player_return(np_player *player, uint64_t mark);
+
+/* The number at the position held: element first + position. */
+np_value        np_player_show(const np_player *player);
+
 /* A refusal's reason in words; of 0 and of numbers that are no refusal it says so. */
 static inline const char *np_refusal_text(uint64_t refusal)
 {
@@ -151,6 +186,8 @@ static inline const char *np_refusal_text(uint64_t refusal)
     case NP_REFUSED_PLACES_OUT_OF_RANGE: return "the number of places is 0 or above the width";
     case NP_REFUSED_TOTAL_OVERFLOW: return "the sum of the counts is above 2^64 - 1";
     case NP_REFUSED_DUPLICATE_LINE: return "the line equals an earlier one";
+    case NP_REFUSED_POSITION_OUT_OF_RANGE: return "the position is not on the run";
+    case NP_REFUSED_BOOKMARK_INVALID: return "the mark is above 3, or is returned to and unset";
     default: return "no refusal has this number";
     }
 }

@@ -14,6 +14,8 @@ ghost use Rattle.lines.specs.ReadLine.{ReadPromise};
 ghost use Rattle.lines.specs.WriteLine.{WritePromise};
 ghost use Rattle.variety.specs.Variety.{VarietyPromise};
 ghost use Rattle.remake.specs.Remake.{RemakePromise};
+ghost use Rattle.player.specs.PlainPlayer.{Open, Forward, Back, SetMark, Return, Show};
+ghost use Rattle.player.specs.Player.{PlayerPromise, told};
 ghost use Rattle.archive_line.specs.Line.{PartPromise};
 ghost use Rattle.lookup.specs.Lookup.{LookupPromise};
 ghost use Rattle.summary.specs.Summary.{SummaryPromise};
@@ -31,6 +33,13 @@ use orbits::IndexReply;
 use orbits::OrbitReply;
 use orbits::plain::of_index;
 use orbits::plain::of_orbit;
+use player::Player;
+use player::forwarded;
+use player::marked;
+use player::moved_back;
+use player::opened;
+use player::returned;
+use player::shown;
 use refusals::ValueReply;
 use refusals::of_value;
 use runs::Run;
@@ -147,4 +156,62 @@ pub extern "C" fn np_summary(archive: &[u8]) -> SummaryReply
     ensures { λ r. ⌜ SummaryPromise (now (archive .entry)) r ⌝ }
 {
     of_summary(summary::summary(archive))
+}
+
+// Opens a run at position 0, with no mark set.
+#[no_mangle]
+pub extern "C" fn np_player_open(player: &mut Player, run: Run) -> u64
+    ensures { λ r. ⌜ PlayerPromise (Open run) (now (player .entry)) (now (player .exit)) (told r) ⌝ }
+{
+    let taken = opened(*player, run);
+    *player = taken.player;
+    taken.refusal
+}
+
+// Moves on by this many positions.
+#[no_mangle]
+pub extern "C" fn np_player_forward(player: &mut Player, steps: u64) -> u64
+    ensures { λ r. ⌜ PlayerPromise (Forward steps) (now (player .entry)) (now (player .exit)) (told r) ⌝ }
+{
+    let taken = forwarded(*player, steps);
+    *player = taken.player;
+    taken.refusal
+}
+
+// Moves back by this many positions.
+#[no_mangle]
+pub extern "C" fn np_player_back(player: &mut Player, steps: u64) -> u64
+    ensures { λ r. ⌜ PlayerPromise (Back steps) (now (player .entry)) (now (player .exit)) (told r) ⌝ }
+{
+    let taken = moved_back(*player, steps);
+    *player = taken.player;
+    taken.refusal
+}
+
+// Sets a mark to the position held.
+#[no_mangle]
+pub extern "C" fn np_player_mark(player: &mut Player, mark: u64) -> u64
+    ensures { λ r. ⌜ PlayerPromise (SetMark mark) (now (player .entry)) (now (player .exit)) (told r) ⌝ }
+{
+    let taken = marked(*player, mark);
+    *player = taken.player;
+    taken.refusal
+}
+
+// Returns to a mark.
+#[no_mangle]
+pub extern "C" fn np_player_return(player: &mut Player, mark: u64) -> u64
+    ensures { λ r. ⌜ PlayerPromise (Return mark) (now (player .entry)) (now (player .exit)) (told r) ⌝ }
+{
+    let taken = returned(*player, mark);
+    *player = taken.player;
+    taken.refusal
+}
+
+// The number at the position held.
+#[no_mangle]
+pub extern "C" fn np_player_show(player: &Player) -> ValueReply
+    ensures { λ r. ⌜ PlayerPromise Show (now (player .entry)) (now (player .entry)) r ⌝ }
+{
+    shown(*player)
 }

@@ -18,6 +18,8 @@ numberOf refusal.BufferTooShort = 8  -- short sheet
 numberOf refusal.PlacesOutOfRange = 9  -- places
 numberOf refusal.TotalOverflow = 10  -- total
 numberOf refusal.DuplicateLine = 11  -- twin
+numberOf refusal.PositionOutOfRange = 12  -- off the run
+numberOf refusal.BookmarkInvalid = 13  -- mark
 
 -- The number that a check gives, 0 where it accepts.
 abbrev pub checkNumber : Check → ℕ

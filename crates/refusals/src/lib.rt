@@ -16,6 +16,8 @@ pub enum Refusal {
     PlacesOutOfRange,
     TotalOverflow,
     DuplicateLine,
+    PositionOutOfRange,
+    BookmarkInvalid,
 }
 
 pub enum Check {
@@ -51,6 +53,8 @@ pub fn number(refusal: Refusal) -> u64
         Refusal::PlacesOutOfRange => 9,
         Refusal::TotalOverflow => 10,
         Refusal::DuplicateLine => 11,
+        Refusal::PositionOutOfRange => 12,
+        Refusal::BookmarkInvalid => 13,
     }
 }
 

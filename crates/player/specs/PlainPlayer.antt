@@ -53,13 +53,17 @@ callRefusal (SetMark m) player = orElse (heldRefusal player) (cond (leb 4 m) 13 
 callRefusal (Return m) player = orElse (heldRefusal player) (returnRefusal (player .run) (markAt player m))
 callRefusal Show player = heldRefusal player
 
+-- An opened player: at position 0, with no mark set.
+abbrev pub opened : Run → PlainPlayer
+opened run = record { run = run; position = 0; marks = none ∷ none ∷ none ∷ none ∷ [] }
+
 -- The player at another position.
 abbrev pub movedTo : PlainPlayer → ℕ → PlainPlayer
 movedTo player p = record { run = player .run; position = p; marks = player .marks }
 
 -- What an accepted call leaves.
 abbrev pub changed : Call → PlainPlayer → PlainPlayer
-changed (Open run) player = record { run = run; position = 0; marks = none ∷ none ∷ none ∷ none ∷ [] }
+changed (Open run) player = opened run
 changed (Forward k) player = movedTo player (player .position + k)
 changed (Back k) player = movedTo player (player .position - k)
 changed (SetMark m) player =
@@ -76,14 +80,14 @@ abbrev pub playerAfter : Call → PlainPlayer → PlainPlayer
 playerAfter call player = unlessRefused (callRefusal call player) player (changed call player)
 
 -- The number that a call shows; 0 for those that only tell whether they were accepted.
-abbrev pub numberOf : Call → PlainPlayer → ℕ
-numberOf (Open run) player = 0
-numberOf (Forward k) player = 0
-numberOf (Back k) player = 0
-numberOf (SetMark m) player = 0
-numberOf (Return m) player = 0
-numberOf Show player = shows (player .run) (player .position)
+abbrev pub numberShown : Call → PlainPlayer → ℕ
+numberShown (Open run) player = 0
+numberShown (Forward k) player = 0
+numberShown (Back k) player = 0
+numberShown (SetMark m) player = 0
+numberShown (Return m) player = 0
+numberShown Show player = shows (player .run) (player .position)
 
 -- What a call answers: the refusal and the number, 0 beside a refusal.
 abbrev pub answer : Call → PlainPlayer → ValueReply
-answer call player = valueReply (callRefusal call player) (numberOf call player)
+answer call player = valueReply (callRefusal call player) (numberShown call player)

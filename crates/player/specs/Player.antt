@@ -8,7 +8,18 @@ use Rattle.refusals.specs.declared.ValueReply.{ValueReply}
 use Rattle.player.specs.declared.Mark.{Mark}
 use Rattle.player.specs.declared.Player.{Player}
 use Rattle.player.specs.PlainPlayer.{
-  PlainPlayer, Call, Open, Forward, Back, SetMark, Return, Show, callRefusal, unlessRefused, playerAfter, answer,
+  PlainPlayer,
+  Call,
+  Open,
+  Forward,
+  Back,
+  SetMark,
+  Return,
+  Show,
+  callRefusal,
+  unlessRefused,
+  playerAfter,
+  answer,
 }
 
 -- A mark whose field `set` is 0 is unset, whatever its position; any other number stands for set.

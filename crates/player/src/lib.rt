@@ -33,13 +33,13 @@ pub struct Player {
 }
 
 // What a call gives: the refusal's number, 0 for none, and the record after it.
-pub struct Played {
+pub struct Outcome {
     pub refusal: u64,
     pub player: Player,
 }
 
 // Opens a run at position 0, with no mark set.
-pub fn opened(player: Player, run: Run) -> Played
+pub fn opened(player: Player, run: Run) -> Outcome
     ensures { λ r. ⌜ PlayerPromise (Open run) player (r .player) (told (r .refusal)) ⌝ }
 {
     let verdict = runs::checked(run);
@@ -58,7 +58,7 @@ pub fn opened(player: Player, run: Run) -> Played
 }
 
 // Moves on by this many positions.
-pub fn forwarded(player: Player, steps: u64) -> Played
+pub fn forwarded(player: Player, steps: u64) -> Outcome
     ensures { λ r. ⌜ PlayerPromise (Forward steps) player (r .player) (told (r .refusal)) ⌝ }
 {
     let verdict = held(player);
@@ -72,7 +72,7 @@ pub fn forwarded(player: Player, steps: u64) -> Played
 }
 
 // Moves back by this many positions, whatever the multiplier.
-pub fn moved_back(player: Player, steps: u64) -> Played
+pub fn moved_back(player: Player, steps: u64) -> Outcome
     ensures { λ r. ⌜ PlayerPromise (Back steps) player (r .player) (told (r .refusal)) ⌝ }
 {
     let verdict = held(player);
@@ -86,7 +86,7 @@ pub fn moved_back(player: Player, steps: u64) -> Played
 }
 
 // Sets a mark to the position held.
-pub fn marked(player: Player, mark: u64) -> Played
+pub fn marked(player: Player, mark: u64) -> Outcome
     ensures { λ r. ⌜ PlayerPromise (SetMark mark) player (r .player) (told (r .refusal)) ⌝ }
 {
     let verdict = held(player);
@@ -99,10 +99,7 @@ pub fn marked(player: Player, mark: u64) -> Played
     let run = player.run;
     let position = player.position;
     let mut marks = player.marks;
-    marks[mark as usize] = Mark {
-        set: 1,
-        position,
-    };
+    marks[mark as usize] = Mark { set: 1, position };
     accepted(Player {
         run,
         position,
@@ -111,7 +108,7 @@ pub fn marked(player: Player, mark: u64) -> Played
 }
 
 // Returns to a mark that is set. Its position is looked at here, and not before.
-pub fn returned(player: Player, mark: u64) -> Played
+pub fn returned(player: Player, mark: u64) -> Outcome
     ensures { λ r. ⌜ PlayerPromise (Return mark) player (r .player) (told (r .refusal)) ⌝ }
 {
     let verdict = held(player);

@@ -2,27 +2,24 @@
 ghost use mathlib.Core.Path.{_≡_};
 ghost use Rattle.refusals.specs.Refusals.{numberOf};
 ghost use Rattle.player.specs.Player.{at};
-use crate::Played;
+use crate::Outcome;
 use crate::Player;
 use refusals::Refusal;
 
 // A declined call leaves the record as it was.
-pub fn declined(refusal: Refusal, player: Player) -> Played
+pub fn declined(refusal: Refusal, player: Player) -> Outcome
     ensures { λ r. ⌜ (r .refusal ≡ numberOf refusal) × (r .player ≡ player) ⌝ }
 {
-    Played {
+    Outcome {
         refusal: refusals::number(refusal),
         player,
     }
 }
 
-pub fn accepted(player: Player) -> Played
+pub fn accepted(player: Player) -> Outcome
     ensures { λ r. ⌜ (r .refusal ≡ 0) × (r .player ≡ player) ⌝ }
 {
-    Played {
-        refusal: 0,
-        player,
-    }
+    Outcome { refusal: 0, player }
 }
 
 // The record at another position.

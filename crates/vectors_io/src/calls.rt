@@ -6,6 +6,7 @@ ghost use lib.ListN.{length};
 use crate::archives;
 use crate::numbers::Bytes;
 use crate::numbers::read_bytes;
+use crate::players;
 use crate::replies::Reply;
 use gaps::plain::of_gap;
 use generator::Generator;
@@ -26,6 +27,7 @@ pub fn reply(letter: u8, n: &[u64]) -> Reply {
         b'F' => archives::reply(letter, n),
         b'G' => gap(n),
         b'I' => index(n),
+        b'K' => players::reply(n),
         b'L' => archives::reply(letter, n),
         b'M' => remake(n),
         b'O' => orbit(n),
@@ -180,7 +182,7 @@ fn generator_of(n: &[u64]) -> Generator
 }
 
 // The run of the first six numbers.
-fn run_of(n: &[u64]) -> Run
+pub fn run_of(n: &[u64]) -> Run
     requires { ⌜ 6 ≤ length (now n) ⌝ }
 {
     Run {

@@ -7,6 +7,7 @@ use replies::Reply;
 mod archives;
 mod calls;
 mod numbers;
+mod players;
 mod replies;
 
 pub fn run() {

@@ -12,12 +12,13 @@ pub enum Reply {
     Four(u64, u64, u64, u64),
     Five(u64, u64, u64, u64, u64),
     Seven(u64, u64, u64, u64, u64, u64, u64),
+    Seventeen(u64, u64, u64, u64, u64, u64, u64, u64, u64, u64, u64, u64, u64, u64, u64, u64, u64),
 }
 
 // Writes the line of a reply at `at`, and gives the place behind it.
 pub fn write(out: &mut [u8], at: usize, reply: Reply) -> usize
-    requires { ⌜ at + 147 ≤ length (now out) ⌝ }
-    ensures { λ r. ⌜ r ≤ at + 147 ⌝ }
+    requires { ⌜ at + 357 ≤ length (now out) ⌝ }
+    ensures { λ r. ⌜ r ≤ at + 357 ⌝ }
 {
     match reply {
         Reply::Unreadable => write_question(out, at),
@@ -26,6 +27,13 @@ pub fn write(out: &mut [u8], at: usize, reply: Reply) -> usize
         Reply::Four(a, b, c, d) => write_numbers(out, at, &[a, b, c, d]),
         Reply::Five(a, b, c, d, e) => write_numbers(out, at, &[a, b, c, d, e]),
         Reply::Seven(a, b, c, d, e, f, g) => write_numbers(out, at, &[a, b, c, d, e, f, g]),
+        Reply::Seventeen(a, b, c, d, e, f, g, h, i, j, k, l, m, n, o, p, q) => {
+            write_numbers(
+                out,
+                at,
+                &[a, b, c, d, e, f, g, h, i, j, k, l, m, n, o, p, q],
+            )
+        }
     }
 }
 

@@ -9,7 +9,7 @@ tests/c/shared.py. Prints how many there are; fails if any differs, is missing o
 import ctypes
 import re
 import sys
-from collections import defaultdict, namedtuple
+from collections import namedtuple
 from pathlib import Path
 
 ROOT = Path(__file__).resolve().parents[1]
@@ -18,12 +18,13 @@ HEADER = "include/noonpasture.h"
 CRATE = "bindings/rust/src"
 
 # What differs by design. A struct is called np_ and its name in snake case, but for this one of the proved code; a slice
-# passes as a pointer and a length, which has a name of its own; and a length in a struct is a uint64_t.
+# passes as a pointer and a length, which has a name of its own, and a struct that is lent as a pointer; and a length in a
+# struct is a uint64_t.
 RENAMED = {"ValueReply": "Value"}
 LENGTHS = {"u8": "length", "u64": "capacity"}
 
 # Of each struct its fields, of each function its parameters and its result, of each constant its number. Fields and parameters
-# are names with types, and the types those of C.
+# are names with types, and the types those of C, an array's with its length behind it.
 Side = namedtuple("Side", "place structs functions constants")
 
 
@@ -67,7 +68,14 @@ def c_type(name):
     if name.startswith("*"):
         access, of = name[1:].split()
         return f"{'const ' if access == 'const' else ''}{c_type(of)} *"
+    if name.startswith("["):
+        of, length = name[1:-1].split("; ")
+        return f"{c_type(of)}[{length}]"
     return f"np_{snake(name)}"
+
+
+# The type of a field in Rattle and Rust.
+FIELD = r"\w+|\[\w+; \d+\]"
 
 
 # The proved code.
@@ -76,12 +84,14 @@ def c_type(name):
 def proved_parameters(text):
     for item in items(text):
         name, kind = matched(r"(\w+): (.*)", item, CALLS)
-        lent = re.fullmatch(r"&(mut )?\[(\w+)\]", kind)
-        if lent:
-            yield name, c_type(f"*{'mut' if lent[1] else 'const'} {lent[2]}")
-            yield LENGTHS.get(lent[2], "length"), "size_t"
-        else:
+        lent = re.fullmatch(r"&(mut )?(?:\[(\w+)\]|(\w+))", kind)
+        if not lent:
             yield name, c_type(kind)
+            continue
+        access, element, struct = lent.groups()
+        yield name, c_type(f"*{'mut' if access else 'const'} {element or struct}")
+        if element:
+            yield LENGTHS.get(element, "length"), "size_t"
 
 
 def proved_structs(name, place):
@@ -93,9 +103,9 @@ def proved_structs(name, place):
         return
     fields = []
     for item in items(only(rf"#\[repr\(C\)\]\s*pub struct {name} \{{([^}}]*)\}}", text, place)):
-        field, kind = matched(r"pub (\w+): (\w+)", item, place)
-        if kind[0].isupper():
-            yield from proved_structs(kind, place)
+        field, kind = matched(rf"pub (\w+): ({FIELD})", item, place)
+        for part in re.findall(r"[A-Z]\w*", kind):
+            yield from proved_structs(part, place)
         fields.append((field, c_type("u64" if kind == "usize" else kind)))
     yield c_type(RENAMED.get(name, name)), fields
 
@@ -120,7 +130,9 @@ def proved():
 def header_fields(text):
     for item in items(text, ";"):
         kind, names = matched(r"(\w+) (.*)", item, HEADER)
-        yield from ((name, kind) for name in items(names))
+        for declared in items(names):
+            name, length = matched(r"(\w+)((?:\[\d+\])?)", declared, HEADER)
+            yield name, kind + length
 
 
 def header_parameter(text):
@@ -165,7 +177,7 @@ def rust_pairs(pattern, text):
 def rust():
     root, raw, refusal = (source(f"{CRATE}/{name}.rs") for name in ("lib", "raw", "refusal"))
     struct = r"#\[repr\(C\)\]\s*(?:#\[derive\([^]]*\)\]\s*)?pub struct (\w+) \{([^}]*)\}"
-    structs = {c_type(name): list(rust_pairs(r"pub (\w+): (\w+)", body)) for name, body in re.findall(struct, root + raw)}
+    structs = {c_type(name): list(rust_pairs(rf"pub (\w+): ({FIELD})", body)) for name, body in re.findall(struct, root + raw)}
     functions = {}
     for item in items(only(r'extern "C" \{([^}]*)\}', raw, CRATE), ";"):
         name, parameters, result = matched(r"pub fn (\w+)\((.*)\) -> (\w+)", item, CRATE)
@@ -177,7 +189,8 @@ def rust():
     return Side(CRATE, structs, functions, constants)
 
 
-# The declarations for ctypes, which has no names of parameters, and for which a size_t is a uint64_t.
+# The declarations for ctypes, which has no names of parameters, for which a size_t is a uint64_t, and whose pointer to a
+# struct does not say const.
 
 CTYPES = {
     ctypes.c_uint64: "uint64_t",
@@ -193,18 +206,28 @@ def python():
     import shared
 
     declared = {kind: c_type(name) for name, kind in vars(shared).items() if isinstance(kind, type(ctypes.Structure))}
-    names = defaultdict(lambda: "another type", {**CTYPES, **declared})
-    structs = {name: [(field, names[kind]) for field, kind in of._fields_] for of, name in declared.items()}
+    pointers = {ctypes.POINTER(of): f"{name} *" for of, name in declared.items()}
+    known = {**CTYPES, **declared, **pointers}
+
+    def name_of(kind):
+        if isinstance(kind, type(ctypes.Array)):
+            return f"{name_of(kind._type_)}[{kind._length_}]"
+        return known.get(kind, "another type")
+
+    structs = {name: [(field, name_of(kind)) for field, kind in of._fields_] for of, name in declared.items()}
     functions = {
-        name: ([("", names[kind]) for kind in parameters], names[result])
+        name: ([("", name_of(kind)) for kind in parameters], name_of(result))
         for name, (result, *parameters) in shared.CALLS.items()
     }
     return Side("tests/c/shared.py", structs, functions, {})
 
 
 def for_python(side):
+    def told(kind):
+        return kind.replace("size_t", "uint64_t").replace("const np_", "np_")
+
     functions = {
-        name: ([("", kind.replace("size_t", "uint64_t")) for _, kind in parameters], result)
+        name: ([("", told(kind)) for _, kind in parameters], result)
         for name, (parameters, result) in side.functions.items()
     }
     return side._replace(functions=functions, constants={})

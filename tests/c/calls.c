@@ -17,8 +17,9 @@
 
 enum { NUMBERS = 256 };
 
-/* Of the call in hand: its numbers; the run of the first six; bytes, and their length. */
+/* Of the call in hand: its numbers, and how many; the run of six of them; bytes, and their length. */
 static uint64_t numbers[NUMBERS];
+static int given;
 static np_run run;
 static uint8_t room[NUMBERS];
 static const uint8_t *bytes;
@@ -43,24 +44,29 @@ static void take_bytes(size_t at)
     bytes = length == 0 ? NULL : room;
 }
 
-static void take_run(void)
+/* The run of six numbers. */
+static np_run run_of(const uint64_t *n)
 {
-    np_generator g = {numbers[0], numbers[1], numbers[2], numbers[3]};
-    np_run r = {g, numbers[4], numbers[5]};
+    np_generator g = {n[0], n[1], n[2], n[3]};
+    np_run r = {g, n[4], n[5]};
 
-    run = r;
+    return r;
 }
+
+/* In a list of calls on a player: where the run to open stands, behind the record, and where the calls do. */
+enum { TO_OPEN = 15, LIST = 21 };
 
 /* Reads the next call and gives its letter; 0 at the end. */
 static int next_call(void)
 {
-    int letter = getchar(), mark, count = 0;
+    int letter = getchar(), mark;
 
     if (letter == EOF)
         return 0;
     memset(numbers, 0, sizeof numbers);
+    given = 0;
     while ((mark = getchar()) == ',')
-        if (count == NUMBERS || scanf("%" SCNu64, &numbers[count++]) != 1)
+        if (given == NUMBERS || scanf("%" SCNu64, &numbers[given++]) != 1)
             fail("a call that does not read");
     if (mark != '\n')
         fail("a call without its byte 10");
@@ -69,7 +75,7 @@ static int next_call(void)
     else if (letter == 'L' || letter == 'F')
         take_bytes(1);
     else
-        take_run();
+        run = run_of(letter == 'K' ? numbers + TO_OPEN : numbers);
     return letter;
 }
 
@@ -120,6 +126,60 @@ static remade_reply remake(uint64_t position, uint64_t lent)
     return m;
 }
 
+static np_player player_of(const uint64_t *n)
+{
+    np_player p = {run_of(n), n[6], {{n[7], n[8]}, {n[9], n[10]}, {n[11], n[12]}, {n[13], n[14]}}};
+
+    return p;
+}
+
+enum { OPEN, FORWARD, BACK, MARK, RETURN, SHOW };
+
+/* One call of a list. All but show answer with the refusal alone. */
+static np_value play_one(np_player *player, uint64_t code, uint64_t argument)
+{
+    np_value v = {0, 0};
+
+    switch (code) {
+    case OPEN: v.refusal = np_player_open(player, run); return v;
+    case FORWARD: v.refusal = np_player_forward(player, argument); return v;
+    case BACK: v.refusal = np_player_back(player, argument); return v;
+    case MARK: v.refusal = np_player_mark(player, argument); return v;
+    case RETURN: v.refusal = np_player_return(player, argument); return v;
+    case SHOW: return np_player_show(player);
+    default: fail("no such call on a player"); return v;
+    }
+}
+
+/* The answer to the last call of a list, and the record after it. */
+typedef struct { np_value value; np_player player; } played_reply;
+
+/* A record between bytes that no call may alter, where further marks would stand. */
+typedef struct { uint8_t before[64]; np_player player; uint8_t behind[64]; } kept_player;
+
+/* Makes the calls in turn. Each leaves the bytes about the record; a refused one and show also every byte of it. */
+static played_reply play(void)
+{
+    kept_player kept, was;
+    played_reply p;
+    int at;
+
+    if (given < LIST + 2 || (given - LIST) % 2 != 0)
+        fail("a list of calls that is none");
+    memset(&kept, 165, sizeof kept);
+    kept.player = player_of(numbers);
+    for (at = LIST; at < given; at += 2) {
+        was = kept;
+        p.value = play_one(&kept.player, numbers[at], numbers[at + 1]);
+        if (p.value.refusal == 0 && numbers[at] != SHOW)
+            was.player = kept.player;
+        if (memcmp(&kept, &was, sizeof kept) != 0)
+            fail("a call on a player that alters what has to stay");
+    }
+    p.player = kept.player;
+    return p;
+}
+
 /* A reply. None has padding, so that replies are the same if their bytes are. */
 typedef union {
     np_value value;
@@ -132,12 +192,14 @@ typedef union {
     np_lookup_reply lookup;
     np_summary_reply summary;
     remade_reply remade;
+    played_reply played;
 } reply;
 
 typedef char no_padding[sizeof(np_value) == 16 && sizeof(np_orbit_reply) == 32 && sizeof(np_index_reply) == 24
                         && sizeof(np_places_reply) == 40 && sizeof(np_gap_reply) == 24 && sizeof(np_run_reply) == 56
                         && sizeof(np_part) == 16 && sizeof(np_lookup_reply) == 32 && sizeof(np_summary_reply) == 32
-                        && sizeof(remade_reply) == 56 ? 1 : -1];
+                        && sizeof(remade_reply) == 56 && sizeof(np_mark) == 16 && sizeof(np_player) == 120
+                        && sizeof(played_reply) == 136 && sizeof(kept_player) == 248 ? 1 : -1];
 
 /* Makes the call in hand, and gives the size of its reply. */
 static size_t answer(int letter, reply *r)
@@ -153,6 +215,7 @@ static size_t answer(int letter, reply *r)
     case 'V': r->value = np_variety(run); return sizeof r->value;
     case 'W': r->value = write_line(numbers[6]); return sizeof r->value;
     case 'M': r->remade = remake(numbers[6], numbers[7]); return sizeof r->remade;
+    case 'K': r->played = play(); return sizeof r->played;
     case 'R': r->run = np_read_line(bytes, length); return sizeof r->run;
     case 'L': r->part = np_line(bytes, length, numbers[0]); return sizeof r->part;
     case 'F': r->lookup = np_lookup(bytes, length, numbers[0]); return sizeof r->lookup;
@@ -236,6 +299,17 @@ static void print_summary(np_summary_reply r)
     print(4, r.refusal, r.line, r.line_count, r.total);
 }
 
+static void print_played(played_reply p)
+{
+    np_run r = p.player.run;
+    np_generator g = r.generator;
+    const np_mark *m = p.player.marks;
+
+    print(17, p.value.refusal, p.value.value, g.width, g.multiplier, g.increment, g.seed, r.first, r.count,
+          p.player.position, m[0].set, m[0].position, m[1].set, m[1].position, m[2].set, m[2].position, m[3].set,
+          m[3].position);
+}
+
 static void print_reply(int letter, const reply *r)
 {
     switch (letter) {
@@ -244,6 +318,7 @@ static void print_reply(int letter, const reply *r)
     case 'B': print_places(r->places); break;
     case 'G': print_gap(r->gap); break;
     case 'M': print_remade(r->remade); break;
+    case 'K': print_played(r->played); break;
     case 'R': print_run(r->run); break;
     case 'L': print_part(r->part); break;
     case 'F': print_lookup(r->lookup); break;
@@ -352,6 +427,39 @@ static void try_lengths(size_t more, uint64_t refusal, uint64_t line)
         fail("a long buffer is not filled");
 }
 
+/* On document 01's run. A constant stands in memory that cannot be written, so that a show that writes, be it the
+ * same bytes, ends the program. */
+static const np_player still = {{{10, 371, 995, 73}, 100, 8}, 2, {{1, 5}, {0, 6}, {7, 0}, {1, 8}}};
+
+static void try_still(void)
+{
+    np_value v = np_player_show(&still);
+
+    if (v.refusal != 0 || v.value != 821)
+        fail("a record that cannot be written is shown otherwise");
+}
+
+/* A record filled with this byte is kept by an open that is refused, and written whole by one that is not. A record's
+ * own run is opened like any other. */
+static void try_open(int byte)
+{
+    static const np_player opened = {{{10, 371, 995, 73}, 100, 8}, 0, {{0, 0}, {0, 0}, {0, 0}, {0, 0}}};
+    np_run refused = {{10, 371, 995, 73}, 100, 0};
+    np_player player, filled;
+
+    memset(&filled, byte, sizeof filled);
+    player = filled;
+    if (np_player_open(&player, refused) != NP_REFUSED_RUN_OUT_OF_RANGE)
+        fail("a run without a position is opened");
+    if (memcmp(&player, &filled, sizeof player) != 0)
+        fail("a refused open alters the record");
+    if (np_player_open(&player, still.run) != 0 || memcmp(&player, &opened, sizeof player) != 0)
+        fail("a run is opened otherwise");
+    player = still;
+    if (np_player_open(&player, player.run) != 0 || memcmp(&player, &opened, sizeof player) != 0)
+        fail("a run is opened otherwise over itself");
+}
+
 int main(void)
 {
     int letter;
@@ -362,6 +470,9 @@ int main(void)
     try_full_archives();
     try_lengths(1 << 8, NP_REFUSED_MALFORMED_LINE, 2);
     try_lengths(1 << 16, NP_REFUSED_ARCHIVE_TOO_LONG, 0);
+    try_still();
+    try_open(0xA5);
+    try_open(0xFF);
     while ((letter = next_call()) != 0) {
         size_t size = answer_over(0xA5, letter, &r);
 

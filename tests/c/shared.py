@@ -25,6 +25,8 @@ RunReply = struct("refusal", run=Run)
 LookupReply = struct("refusal", "line", "found", "position")
 Part = struct("start", "length")
 SummaryReply = struct("refusal", "line", "line_count", "total")
+Mark = struct("set", "position")
+Player = struct(run=Run, position=c_uint64, marks=Mark * 4)
 
 # The result, and the parameters.
 CALLS = {
@@ -42,13 +44,22 @@ CALLS = {
     "np_line": (Part, c_char_p, c_size_t, c_uint64),
     "np_lookup": (LookupReply, c_char_p, c_size_t, c_uint64),
     "np_summary": (SummaryReply, c_char_p, c_size_t),
+    "np_player_open": (c_uint64, POINTER(Player), Run),
+    "np_player_forward": (c_uint64, POINTER(Player), c_uint64),
+    "np_player_back": (c_uint64, POINTER(Player), c_uint64),
+    "np_player_mark": (c_uint64, POINTER(Player), c_uint64),
+    "np_player_return": (c_uint64, POINTER(Player), c_uint64),
+    "np_player_show": (Value, POINTER(Player)),
 }
 
 
-def numbers(reply):
-    for name, _ in reply._fields_:
-        value = getattr(reply, name)
-        yield from numbers(value) if isinstance(value, ctypes.Structure) else (value,)
+def numbers(value):
+    """Those of a struct or an array, or the number itself."""
+    if isinstance(value, ctypes.Structure):
+        value = [getattr(value, name) for name, _ in value._fields_]
+    elif not isinstance(value, ctypes.Array):
+        return (value,)
+    return tuple(number for part in value for number in numbers(part))
 
 
 def try_calls(library):
@@ -65,7 +76,7 @@ def try_calls(library):
             filled = result.from_buffer_copy(b"\xa5" * size)
             ctypes.CFUNCTYPE(None, POINTER(result), *parameters)((name, library))(filled, *arguments)
             assert bytes(filled) == bytes(reply)
-        return tuple(numbers(reply))
+        return numbers(reply)
 
     g, narrow, prime = Generator(10, 371, 995, 73), Generator(4, 5, 3, 1), Generator(0, 16807, 0, 1)
     assert call("np_element", g, 1000) == (0, 985)
@@ -95,6 +106,26 @@ def try_calls(library):
     twice = archive * 2
     assert call("np_lookup", twice, len(twice), 49) == call("np_summary", twice, len(twice)) == (11, 3, 0, 0)
     assert call("np_line", twice, len(twice), 2) == (0, 0)
+
+    def played(name, *arguments):
+        """The answer, and then the whole record."""
+        return *call(name, player, *arguments), *numbers(player)
+
+    shown, unset = (10, 371, 995, 73, 100, 8), (0,) * 6
+    player = Player(position=9, marks=(Mark * 4)(*[(1, 1)] * 4))
+    before = numbers(player)
+    assert played("np_player_show") == (4, 0, *before)
+    assert played("np_player_open", Run(g, 100, 0)) == (5, *before)
+    assert played("np_player_open", Run(g, 100, 8)) == (0, *shown, 0, *unset, 0, 0)
+    assert played("np_player_forward", 2) == (0, *shown, 2, *unset, 0, 0)
+    assert played("np_player_show") == (0, 821, *shown, 2, *unset, 0, 0)
+    assert played("np_player_mark", 3) == (0, *shown, 2, *unset, 1, 2)
+    assert played("np_player_mark", 2**32) == (13, *shown, 2, *unset, 1, 2)
+    assert played("np_player_forward", 2**64 - 1) == (12, *shown, 2, *unset, 1, 2)
+    assert played("np_player_back", 1) == (0, *shown, 1, *unset, 1, 2)
+    assert played("np_player_back", 2) == (12, *shown, 1, *unset, 1, 2)
+    assert played("np_player_return", 0) == (13, *shown, 1, *unset, 1, 2)
+    assert played("np_player_return", 3) == (0, *shown, 2, *unset, 1, 2)
 
     # Lengths of which 32 bits are those of a line, and of less: a file that takes no room but for its first bytes.
     with tempfile.TemporaryFile() as file:

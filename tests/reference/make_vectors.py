@@ -18,15 +18,20 @@ The file stdin has one call a line, as decimal numbers separated by commas behin
     F  lookup (find)         number, count of bytes, the bytes                   refusal, line, found, position
     S  summary               count of bytes, the bytes                           refusal, line, line_count, total
     M  remake                the six numbers of a run, position, lent            refusal, count, 5 numbers
+    K  player (keeps place)  a record, the six numbers of a run, 1 to 8 calls    refusal, value, the record
 
 The file stdout has the reply to each, the numbers on the right. No call has more than 250 numbers.
 G's backward is 1 if steps lead back, and else 0, so that all fields are plain numbers.
 The five numbers of M are a buffer that held 1, 2, 3, 4, 5, and of which the first 0 to 5 were lent.
+A record of K is fifteen numbers: the six of a run, the position, and of each of four marks set and position. The calls
+are made on that record in turn, each written as two numbers, code and argument: 0 open (0; it opens the run that stands
+before the calls), 1 forward (steps), 2 back (steps), 3 set a mark (mark), 4 return (mark), 5 show (0). The reply has
+refusal and value of the last call, the value 0 but for show, and the record after it.
 """
 
 import random
 import sys
-from itertools import combinations, islice, permutations, product
+from itertools import chain, combinations, islice, permutations, product
 from pathlib import Path
 
 import reference as ref
@@ -41,6 +46,25 @@ OTHER_WIDTHS = (0, *REFUSED_WIDTHS)
 def gap_reply(*args):
     refusal, found, steps = ref.gap(*args)
     return refusal, found, int(steps < 0), abs(steps)
+
+
+# The calls on a player by their codes; each takes the record, the run to open and its argument.
+OPEN, FORWARD, BACK, MARK, RETURN, SHOW = range(6)
+PLAYER_CALLS = (
+    lambda record, run, _: ref.player_open(record, run),
+    lambda record, _, steps: ref.player_forward(record, steps),
+    lambda record, _, steps: ref.player_back(record, steps),
+    lambda record, _, mark: ref.player_mark(record, mark),
+    lambda record, _, mark: ref.player_return(record, mark),
+    lambda record, *_: ref.player_show(record),
+)
+
+
+def player_reply(*numbers):
+    record, run, calls = numbers[:15], numbers[15:21], numbers[21:]
+    for call, argument in zip(calls[::2], calls[1::2]):
+        refusal, value, *record = PLAYER_CALLS[call](record, run, argument)
+    return refusal, value, *record
 
 
 REPLY = {
@@ -58,6 +82,7 @@ REPLY = {
     "F": lambda number, archive: ref.lookup(archive, number),
     "S": ref.summary,
     "M": ref.remake,
+    "K": player_reply,
 }
 
 
@@ -986,10 +1011,222 @@ def numbers_beyond():
     yield "W", (4, 5, 3, 1, 0, 16, 256)
 
 
+# For the player.
+BLANK, NO_RUN = (0,) * 15, (0,) * 6
+SHOWN_RUN = 10, 371, 995, 73, 100, 8
+
+
+def a_record(run, position, *marks):
+    """Marks that are not given are unset."""
+    return *run, position, *chain(*marks), *(0, 0) * (4 - len(marks))
+
+
+def plays(record, run, *calls):
+    """A list for each of these calls, which ends with it; behind eight calls the next list begins, with the record that
+    they leave."""
+    while calls:
+        for end in range(1, len(calls[:8]) + 1):
+            yield "K", (*record, *run, *chain(*calls[:end]))
+        record = player_reply(*record, *run, *chain(*calls[:8]))[2:]
+        calls = calls[8:]
+
+
+def worked_plays():
+    """Document 01's run, to its end and back; places marked, and returned to."""
+    on, back = ((SHOW, 0), (FORWARD, 1)), ((SHOW, 0), (BACK, 1))
+    yield from plays(BLANK, SHOWN_RUN, (OPEN, 0), *on * 8, *back * 8)
+    first, second = ((FORWARD, 2), (MARK, 0)), ((FORWARD, 3), (MARK, 1))
+    returns = chain(*(((RETURN, mark), (SHOW, 0)) for mark in (0, 1, 2, 0)))
+    again = (BACK, 1), (MARK, 0), (FORWARD, 6), (RETURN, 0), (SHOW, 0)
+    yield from plays(BLANK, SHOWN_RUN, (OPEN, 0), *first, *second, *returns, *again, (OPEN, 0), (RETURN, 1))
+
+
+# Two of even multiplier, in which no number tells the one before it; of width 0; the longest; at a sequence's far end.
+PLAYED_RUNS = (
+    (4, 2, 0, 1, 0, 6),
+    (64, 6, 1, 1, 60, 9),
+    (*prime(1), 0, 5),
+    (64, 1, 1, 0, 0, TOP),
+    (64, 5, 3, 1, TOP - 7, 7),
+)
+
+
+def plays_backward():
+    """From the last position, which is marked."""
+    for run in PLAYED_RUNS:
+        steps_back = (BACK, 1), (SHOW, 0), (BACK, run[5] - 2), (SHOW, 0)
+        yield from plays(BLANK, run, (OPEN, 0), (FORWARD, run[5] - 1), (MARK, 3), *steps_back, (RETURN, 3), (SHOW, 0))
+
+
+# Accepted ones, and such as are refused for one thing, two or three.
+HELD_RUNS = (
+    SHOWN_RUN,
+    (65, 371, 995, 73, 100, 8),
+    (10, 1024, 995, 73, 100, 8),
+    (10, 371, 995, 73, 100, 0),
+    (10, 371, 995, 73, TOP - 7, 8),
+    (65, 1024, 995, 73, 100, 8),
+    (65, 371, 995, 73, 100, 0),
+    (10, 371, 1024, 73, 100, 0),
+    (65, 371, 995, 1024, TOP - 7, 8),
+    (*prime(0), 100, 8),
+)
+# Mark 0 is set and on the run; 1 is unset; 2 is set, but not on the run; 3 is neither.
+MARKED = (1, 5), (0, 6), (1, 8), (0, TOP)
+MOVES = *((FORWARD, steps) for steps in (1, 8)), *((BACK, steps) for steps in (1, 4))
+ON_MARKS = *((MARK, mark) for mark in (1, 4)), *((RETURN, mark) for mark in range(5))
+
+
+def refusals_of_players():
+    """Each run with a position that is on it and one that is not; each call with an argument that is refused and one
+    that is not. Then each run opened, over a record that is marked and one of the largest numbers."""
+    for run, position, call in product(HELD_RUNS, (3, 8), (*MOVES, *ON_MARKS, (SHOW, 0))):
+        yield from plays(a_record(run, position, *MARKED), NO_RUN, call)
+    for run, record in product(HELD_RUNS, (a_record(SHOWN_RUN, 3, *MARKED), (TOP,) * 15)):
+        yield from plays(record, run, (OPEN, 0), (RETURN, 0), (SHOW, 0))
+
+
+def moves_about_the_ends():
+    """By as many steps as lead to an end of the run, by one more and one less, and by so many that the sum would be 0
+    or 1 modulo 2^64; and what is shown at the ends."""
+    for count in (1, 8, 2**32, 2**63, TOP):
+        for position in sorted({0, count // 3, count - 1}):
+            left, over = count - position, 2**64 - position
+            forward = {left - 1, left, left + 1, over, over + 1, TOP}
+            back = {position - 1, position, position + 1, TOP}
+            run = *pick((*WIDE, *EVEN, prime(1))), 0, count
+            for call, steps in ((FORWARD, forward), (BACK, back)):
+                for k in sorted(k for k in steps if 0 <= k <= TOP):
+                    yield from plays(a_record(run, position), NO_RUN, (call, k))
+                    if k in (left - 1, position):
+                        yield from plays(a_record(run, position), NO_RUN, (call, k), (SHOW, 0))
+
+
+ALL_SET = (1, 7), (7, 2), (2**32, 4), (2**63, 1)
+BAD_MARKS = 4, 5, 7, 8, 255, *(more + m for more, m in zip((2**8, 2**16, 2**32, 2**63), range(4))), 2**63, TOP
+SET_FIELDS = 0, 1, 2, 7, 2**8, 2**16, 2**32, 2**63, TOP
+
+
+def marks_of_players():
+    """Each mark set, and then each returned to, where none was set and where all were; marks that there are not."""
+    for marks in ((), ALL_SET):
+        record = a_record(SHOWN_RUN, 6, *marks)
+        for mark, other in product(range(4), repeat=2):
+            yield from plays(record, NO_RUN, (MARK, mark), (BACK, 3), (RETURN, other))
+    for call, mark in product((MARK, RETURN), BAD_MARKS):
+        yield from plays(a_record(SHOWN_RUN, 6, *ALL_SET), NO_RUN, (call, mark))
+
+
+def fields_of_marks():
+    """Each mark with numbers of every size in its field set; with positions on the run and not. It is returned to, and
+    then set."""
+    positions = 0, 7, 8, 9, 2**8, 2**32 + 1, 2**63 + 1, TOP
+    fields = [*((number, 5) for number in SET_FIELDS), *((1, position) for position in positions)]
+    for mark, field in product(range(4), fields):
+        marks = [(0, 0)] * mark + [field]
+        yield from plays(a_record(SHOWN_RUN, 3, *marks), NO_RUN, (RETURN, mark), (MARK, mark))
+
+
+def some_steps(count):
+    return pick((0, 1, 1, below(8), below(count), below(count), count - 1, count, below(2**64), TOP))
+
+
+def a_player_call(count, marks=(0, 1, 2, 3)):
+    call = pick((FORWARD, BACK, MARK, RETURN, SHOW))
+    if call == SHOW:
+        return call, 0
+    if call in (MARK, RETURN):
+        return call, pick((*marks, *marks, 4, below(2**64)))
+    return call, some_steps(count)
+
+
+def runs_to_play():
+    """Of every width and kind of multiplier; of width 0."""
+    return [a_run(g) for g in (*generators(), *WIDE, *prime_generators(60))]
+
+
+def opened_players():
+    """Opened, moved on and marked there; then five calls."""
+    pool = runs_to_play()
+    for _ in range(20):
+        run, mark = pick(pool), below(4)
+        calls = [a_player_call(run[5], (mark, mark, below(4))) for _ in range(5)]
+        yield from plays(BLANK, run, (OPEN, 0), (FORWARD, below(run[5])), (MARK, mark), *calls)
+
+
+def kept_players():
+    """An accepted run, a position on it and marks of every kind; now and then another run is opened."""
+    pool = runs_to_play()
+    for _ in range(40):
+        run = pick(pool)
+        count = run[5]
+        marks = [(pick((0, 1, 1, 2**63)), pick((below(count), below(count), count - 1, count, TOP))) for _ in range(4)]
+        calls = [a_player_call(count) for _ in range(3)]
+        if below(4) == 0:
+            calls[1] = OPEN, 0
+        yield from plays(a_record(run, below(count), *marks), pick(pool), *calls)
+
+
+def a_word():
+    return pick((0, 1, below(2**64), below(2**64), 2 ** below(64), TOP))
+
+
+def any_records():
+    """Any numbers in every field, often with a width of 64, at which all operands are accepted; so the run to open."""
+    for _ in range(80):
+        record, run = ([pick((64, 64, 64, a_word())), *(a_word() for _ in range(length - 1))] for length in (15, 6))
+        yield from plays(record, run, pick(((OPEN, 0), a_player_call(TOP))), a_player_call(TOP))
+
+
+def plain_lists():
+    """Lists of one call with small numbers, and places of numbers on which its answer depends: the run and the position
+    held, the argument, a mark, the run opened."""
+    narrow, wide, marks = (4, 5, 3, 1, 0, 16), (64, 5, 3, 1, 0, TOP), [(1, 2)] * 4
+    for call in ((FORWARD, 1), (BACK, 1), (MARK, 1), (RETURN, 0), (SHOW, 0)):
+        argument = (22,) if call[0] != SHOW else ()
+        yield (*a_record(narrow, 1, *marks), *NO_RUN, *call), (0, 1, 2, 3, 6, *argument)
+        yield (*a_record(wide, 1, *marks), *NO_RUN, *call), (4, 6, *argument)
+        yield (*a_record(narrow, 20, *marks), *NO_RUN, *call), (5,)
+    for run, mark in product((narrow, wide), range(4)):
+        yield (*a_record(run, 1, *marks), *NO_RUN, RETURN, mark), (8 + 2 * mark,)
+        yield (*a_record(run, 1), *NO_RUN, RETURN, mark), (7 + 2 * mark,)
+    for g in ((4, 5, 3, 1), (64, 5, 3, 1), prime(1)):
+        yield (*BLANK, *g, 0, 16, OPEN, 0), range(15, 21)
+
+
+def effect_of(numbers):
+    """The answer to a list, and which numbers of the record it changes to which: not those that are only kept."""
+    refusal, value, *record = player_reply(*numbers)
+    return refusal, value, [(at, new) for at, (old, new) in enumerate(zip(numbers, record)) if old != new]
+
+
+def player_numbers_beyond():
+    """As numbers_beyond; but that the record shows its numbers again does not count, another answer or change has to
+    come of them. Left out are codes, the argument of open and show, and what a call only keeps or writes over."""
+    told = set()
+    for numbers, places in plain_lists():
+        for place, more in product(places, BEYOND):
+            larger, lower = (
+                (*numbers[:place], n, *numbers[place + 1 :]) for n in (numbers[place] + more, numbers[place] % more)
+            )
+            if effect_of(larger) != effect_of(lower):
+                told.add((numbers[21], place, more))
+                yield "K", larger
+    held = *product(range(FORWARD, SHOW + 1), range(7)), *product(range(FORWARD, SHOW), (22,))
+    asked = *held, *product((RETURN,), range(7, 15)), *product((OPEN,), range(15, 21))
+    assert told == {(call, place, more) for (call, place), more in product(asked, BEYOND)}
+
+
+def player_calls():
+    worked = worked_plays, plays_backward, refusals_of_players, moves_about_the_ends, marks_of_players, fields_of_marks
+    for part in (*worked, opened_players, kept_players, any_records, player_numbers_beyond):
+        yield from part()
+
+
 def all_calls():
     refused = refused_generators, refused_runs, one_way, refused_archives
     accepted = long_sequences, wide_calls, printed_tables, valid_calls, reading_calls, archive_calls, remaking_calls
-    later = gap_calls, places_calls, variety_calls, prime_calls, summary_calls, twin_calls, numbers_beyond
+    later = gap_calls, places_calls, variety_calls, prime_calls, summary_calls, twin_calls, numbers_beyond, player_calls
     parts = bounds, *refused, *accepted, *later
     return dict.fromkeys((code, tuple(args)) for part in parts for code, args in part())
 

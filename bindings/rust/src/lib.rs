@@ -443,6 +443,186 @@ pub fn summary(archive: &[u8]) -> Result<Summary, Refused> {
     Refused::of(refusal, line).map(|()| Summary { line_count, total })
 }
 
+/// Plays a run forward and back, with four marks, numbered 0 to 3, to return to.
+///
+/// It always stands at a position of its run: a refused call leaves it as it was.
+///
+/// ```
+/// use noonpasture::{Player, Refusal, Run};
+///
+/// let mut player = Player::open(Run::from([10, 371, 995, 73, 100, 8]))?;
+/// assert_eq!(player.show(), Ok(49));
+/// player.forward(2)?;
+/// assert_eq!(player.show(), Ok(821));
+/// player.set_mark(0)?;
+/// player.forward(5)?;
+/// assert_eq!(player.show(), Ok(1002));
+/// assert_eq!(player.forward(1), Err(Refusal::PositionOutOfRange));
+/// assert_eq!(player.show(), Ok(1002));
+/// player.back(3)?;
+/// assert_eq!(player.show(), Ok(217));
+/// player.return_to(0)?;
+/// assert_eq!(player.show(), Ok(821));
+/// # Ok::<(), Refusal>(())
+/// ```
+#[derive(Clone, Debug, PartialEq, Eq)]
+pub struct Player {
+    record: raw::Player,
+}
+
+impl Player {
+    /// A player of the run, at position 0 and with no mark set.
+    ///
+    /// ```
+    /// use noonpasture::{Player, Refusal, Run};
+    ///
+    /// let run = Run::from([10, 371, 995, 73, 100, 8]);
+    /// let player = Player::open(run)?;
+    /// assert_eq!((player.run(), player.position(), player.marks()), (run, 0, [None; 4]));
+    /// assert_eq!(Player::open(Run::from([65, 371, 995, 73, 100, 8])), Err(Refusal::WidthOutOfRange));
+    /// assert_eq!(Player::open(Run::from([10, 1024, 995, 73, 100, 8])), Err(Refusal::OperandOutOfRange));
+    /// assert_eq!(Player::open(Run { count: 0, ..run }), Err(Refusal::RunOutOfRange));
+    /// # Ok::<(), Refusal>(())
+    /// ```
+    #[inline]
+    pub fn open(run: Run) -> Result<Player, Refusal> {
+        let mut player = Player { record: raw::Player::default() };
+        player.reopen(run).map(|()| player)
+    }
+
+    /// Opens another run in place of this one, at position 0 and with no mark set.
+    ///
+    /// ```
+    /// use noonpasture::{Player, Refusal, Run};
+    ///
+    /// let run = Run::from([4, 5, 3, 1, 0, 16]);
+    /// let mut player = Player::open(Run::from([10, 371, 995, 73, 100, 8]))?;
+    /// player.forward(4)?;
+    /// player.set_mark(3)?;
+    /// assert_eq!(player.reopen(Run { count: 0, ..run }), Err(Refusal::RunOutOfRange));
+    /// assert_eq!((player.show(), player.marks()), (Ok(217), [None, None, None, Some(4)]));
+    /// player.reopen(run)?;
+    /// assert_eq!((player.show(), player.marks()), (Ok(1), [None; 4]));
+    /// # Ok::<(), Refusal>(())
+    /// ```
+    #[inline]
+    pub fn reopen(&mut self, run: Run) -> Result<(), Refusal> {
+        Refusal::of(raw::player_open(&mut self.record, run))
+    }
+
+    /// Moves on by so many positions, if that leads to a position of the run.
+    ///
+    /// ```
+    /// use noonpasture::{Player, Refusal, Run};
+    ///
+    /// let mut player = Player::open(Run::from([10, 371, 995, 73, 100, 8]))?;
+    /// player.forward(7)?;
+    /// assert_eq!(player.show(), Ok(1002));
+    /// assert_eq!(player.forward(1), Err(Refusal::PositionOutOfRange));
+    /// assert_eq!(player.forward(u64::MAX), Err(Refusal::PositionOutOfRange));
+    /// player.forward(0)?;
+    /// assert_eq!(player.position(), 7);
+    /// # Ok::<(), Refusal>(())
+    /// ```
+    #[inline]
+    pub fn forward(&mut self, steps: u64) -> Result<(), Refusal> {
+        Refusal::of(raw::player_forward(&mut self.record, steps))
+    }
+
+    /// Moves back by so many positions, if that leads to a position of the run; with an even multiplier too.
+    ///
+    /// ```
+    /// use noonpasture::{Player, Refusal, Run};
+    ///
+    /// // 1, 2, 4, 8, 0, 0.
+    /// let mut player = Player::open(Run::from([4, 2, 0, 1, 0, 6]))?;
+    /// player.forward(5)?;
+    /// player.back(2)?;
+    /// assert_eq!(player.show(), Ok(8));
+    /// assert_eq!(player.back(4), Err(Refusal::PositionOutOfRange));
+    /// assert_eq!(player.position(), 3);
+    /// # Ok::<(), Refusal>(())
+    /// ```
+    #[inline]
+    pub fn back(&mut self, steps: u64) -> Result<(), Refusal> {
+        Refusal::of(raw::player_back(&mut self.record, steps))
+    }
+
+    /// Sets a mark to the position held, whether it was set before or not.
+    ///
+    /// ```
+    /// use noonpasture::{Player, Refusal, Run};
+    ///
+    /// let mut player = Player::open(Run::from([10, 371, 995, 73, 100, 8]))?;
+    /// player.set_mark(0)?;
+    /// player.forward(6)?;
+    /// player.set_mark(3)?;
+    /// assert_eq!(player.set_mark(4), Err(Refusal::BookmarkInvalid));
+    /// assert_eq!(player.marks(), [Some(0), None, None, Some(6)]);
+    /// # Ok::<(), Refusal>(())
+    /// ```
+    #[inline]
+    pub fn set_mark(&mut self, mark: u64) -> Result<(), Refusal> {
+        Refusal::of(raw::player_mark(&mut self.record, mark))
+    }
+
+    /// Returns to a mark, which stays set.
+    ///
+    /// ```
+    /// use noonpasture::{Player, Refusal, Run};
+    ///
+    /// let mut player = Player::open(Run::from([10, 371, 995, 73, 100, 8]))?;
+    /// player.forward(3)?;
+    /// player.set_mark(1)?;
+    /// player.back(3)?;
+    /// player.return_to(1)?;
+    /// assert_eq!((player.show(), player.marks()), (Ok(434), [None, Some(3), None, None]));
+    /// assert_eq!(player.return_to(2), Err(Refusal::BookmarkInvalid));
+    /// assert_eq!(player.return_to(4), Err(Refusal::BookmarkInvalid));
+    /// # Ok::<(), Refusal>(())
+    /// ```
+    #[inline]
+    pub fn return_to(&mut self, mark: u64) -> Result<(), Refusal> {
+        Refusal::of(raw::player_return(&mut self.record, mark))
+    }
+
+    /// The number at the position held. As the player stands on its run, this is not refused.
+    ///
+    /// ```
+    /// use noonpasture::{Player, Refusal, Run};
+    ///
+    /// let mut player = Player::open(Run::from([10, 371, 995, 73, 100, 8]))?;
+    /// for number in [49, 742, 821, 434, 217, 606, 541] {
+    ///     assert_eq!(player.show(), Ok(number));
+    ///     player.forward(1)?;
+    /// }
+    /// assert_eq!(player.show(), Ok(1002));
+    /// # Ok::<(), Refusal>(())
+    /// ```
+    #[inline]
+    pub fn show(&self) -> Result<u64, Refusal> {
+        value(raw::player_show(&self.record))
+    }
+
+    /// The run that was opened.
+    #[inline]
+    pub fn run(&self) -> Run {
+        self.record.run
+    }
+
+    /// The position held, below the run's count.
+    #[inline]
+    pub fn position(&self) -> u64 {
+        self.record.position
+    }
+
+    /// The positions of the marks that are set.
+    #[inline]
+    pub fn marks(&self) -> [Option<u64>; 4] {
+        self.record.marks.map(|mark| (mark.set != 0).then_some(mark.position))
+    }
+}
+
 /// The examples of the repository's README.
 #[cfg(doctest)]
 #[doc = include_str!("../../../README.md")]

@@ -84,6 +84,23 @@ pub struct SummaryReply {
     pub total: u64,
 }
 
+/// `set` is 0 for unset; any other number is for set.
+#[repr(C)]
+#[derive(Clone, Copy, Debug, Default, PartialEq, Eq)]
+pub struct Mark {
+    pub set: u64,
+    pub position: u64,
+}
+
+/// Any numbers may stand in it.
+#[repr(C)]
+#[derive(Clone, Copy, Debug, Default, PartialEq, Eq)]
+pub struct Player {
+    pub run: Run,
+    pub position: u64,
+    pub marks: [Mark; 4],
+}
+
 mod foreign {
     use super::*;
 
@@ -102,10 +119,17 @@ mod foreign {
         pub fn np_line(archive: *const u8, length: usize, line: u64) -> Part;
         pub fn np_lookup(archive: *const u8, length: usize, value: u64) -> LookupReply;
         pub fn np_summary(archive: *const u8, length: usize) -> SummaryReply;
+        pub fn np_player_open(player: *mut Player, run: Run) -> u64;
+        pub fn np_player_forward(player: *mut Player, steps: u64) -> u64;
+        pub fn np_player_back(player: *mut Player, steps: u64) -> u64;
+        pub fn np_player_mark(player: *mut Player, mark: u64) -> u64;
+        pub fn np_player_return(player: *mut Player, mark: u64) -> u64;
+        pub fn np_player_show(player: *const Player) -> Value;
     }
 }
 
-// Safety of all calls below: numbers may be any, and each pointer comes with its slice's length.
+// Safety of all calls below: numbers may be any, those of a player's record too, each pointer to bytes or numbers
+// comes with its slice's length, and a record is borrowed for the call alone.
 
 #[inline]
 pub fn element(g: Generator, index: u64) -> Value {
@@ -175,4 +199,34 @@ pub fn lookup(archive: &[u8], value: u64) -> LookupReply {
 #[inline]
 pub fn summary(archive: &[u8]) -> SummaryReply {
     unsafe { foreign::np_summary(archive.as_ptr(), archive.len()) }
+}
+
+#[inline]
+pub fn player_open(player: &mut Player, run: Run) -> u64 {
+    unsafe { foreign::np_player_open(player, run) }
+}
+
+#[inline]
+pub fn player_forward(player: &mut Player, steps: u64) -> u64 {
+    unsafe { foreign::np_player_forward(player, steps) }
+}
+
+#[inline]
+pub fn player_back(player: &mut Player, steps: u64) -> u64 {
+    unsafe { foreign::np_player_back(player, steps) }
+}
+
+#[inline]
+pub fn player_mark(player: &mut Player, mark: u64) -> u64 {
+    unsafe { foreign::np_player_mark(player, mark) }
+}
+
+#[inline]
+pub fn player_return(player: &mut Player, mark: u64) -> u64 {
+    unsafe { foreign::np_player_return(player, mark) }
+}
+
+#[inline]
+pub fn player_show(player: &Player) -> Value {
+    unsafe { foreign::np_player_show(player) }
 }

@@ -4,8 +4,9 @@ use std::error::Error;
 use std::fmt::{self, Display, Formatter};
 
 /// Why a call is refused: the lowest that applies; of an archive `ArchiveTooLong`, else the reason of
-/// its first refused line, `DuplicateLine` the last of these, else `TotalOverflow`. The numbers are
-/// those of `include/noonpasture.h`.
+/// its first refused line, `DuplicateLine` the last of these, else `TotalOverflow`; of a return to a mark
+/// `PositionOutOfRange` for the position held, else `BookmarkInvalid`, else `PositionOutOfRange` for the
+/// mark's. The numbers are those of `include/noonpasture.h`.
 #[derive(Clone, Copy, Debug, PartialEq, Eq, Hash)]
 #[non_exhaustive]
 pub enum Refusal {
@@ -20,11 +21,13 @@ pub enum Refusal {
     PlacesOutOfRange,
     TotalOverflow,
     DuplicateLine,
+    PositionOutOfRange,
+    BookmarkInvalid,
 }
 
 impl Refusal {
     /// All of them, in the order of their numbers, which begin with 1.
-    pub const ALL: [Refusal; 11] = [
+    pub const ALL: [Refusal; 13] = [
         Refusal::ArchiveTooLong,
         Refusal::MalformedLine,
         Refusal::WidthOutOfRange,
@@ -36,6 +39,8 @@ impl Refusal {
         Refusal::PlacesOutOfRange,
         Refusal::TotalOverflow,
         Refusal::DuplicateLine,
+        Refusal::PositionOutOfRange,
+        Refusal::BookmarkInvalid,
     ];
 
     /// ```
@@ -73,6 +78,8 @@ impl Display for Refusal {
             Refusal::PlacesOutOfRange => "the number of places is 0 or above the width",
             Refusal::TotalOverflow => "the sum of the counts is above 2^64 - 1",
             Refusal::DuplicateLine => "the line equals an earlier one",
+            Refusal::PositionOutOfRange => "the position is not on the run",
+            Refusal::BookmarkInvalid => "the mark is above 3, or is returned to and unset",
         })
     }
 }

@@ -7,7 +7,8 @@ use std::path::Path;
 use std::process::Command;
 
 use noonpasture::raw::{
-    GapReply, IndexReply, LookupReply, OrbitReply, Part, PlacesReply, RunReply, SummaryReply, Value,
+    GapReply, IndexReply, LookupReply, Mark, OrbitReply, Part, PlacesReply, Player, RunReply, SummaryReply,
+    Value,
 };
 use noonpasture::{Generator, Refusal, Run, ARCHIVE_MAX, LINE_MAX, VERSION};
 
@@ -61,6 +62,12 @@ fn facts() -> Vec<Fact> {
     layout!(facts, "np_lookup_reply", LookupReply { refusal, line, found, position });
     layout!(facts, "np_part", Part { start, length });
     layout!(facts, "np_summary_reply", SummaryReply { refusal, line, line_count, total });
+    layout!(facts, "np_mark", Mark { set, position });
+    layout!(facts, "np_player", Player { run, position, marks });
+    for mark in 0..Player::default().marks.len() {
+        let place = offset_of!(Player, marks) + mark * size_of::<Mark>();
+        facts.push(number(format!("offsetof(np_player, marks[{mark}])"), place));
+    }
     for refusal in Refusal::ALL {
         let name = constant(refusal);
         facts.push(number(name.clone(), refusal.number() as usize));

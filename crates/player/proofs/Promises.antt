@@ -1,6 +1,6 @@
 -- The ways out of a call. What an accepted call leaves of the record stands for what the plain player would be: each field is
 -- changed alike, and a mark that is returned to is set. A declined call leaves the record, so the plain player too.
-use mathlib.Core.Path.{_≡_, refl, sym, ap, subst, _∙_}
+use mathlib.Core.Path.{_≡_, refl, sym, ap, ap₂, subst, _∙_}
 use mathlib.Core.Bool.{Bool, true, false, cond}
 use mathlib.Core.List.{List, [], _∷_, map}
 use mathlib.Core.Option.{Option, none, some, Option·getD}
@@ -10,7 +10,7 @@ use lib.Dec.{leb}
 use borrow.Author.Tests.{leb-false, le-leb, lt-leb}
 use lib.ListN.{getD, set, List·getD-map}
 use Rattle.refusals.specs.declared.Refusal.{Refusal}
-use Rattle.refusals.specs.Refusals.{numberOf, orElse}
+use Rattle.refusals.specs.Refusals.{numberOf}
 use Rattle.refusals.specs.declared.ValueReply.{ValueReply}
 use Rattle.refusals.specs.Replies.{valueReply}
 use Rattle.refusals.proofs.Conditions.{or-else-none, cond-none}
@@ -46,6 +46,7 @@ use Rattle.player.specs.Player.{
   plainPlayer,
   unset,
   setAt,
+  at,
   fieldsChanged,
   fieldsAfter,
   PlayerPromise,
@@ -57,10 +58,6 @@ map-set : {A B : Type 0} (f : A → B) (l : List A) (i : ℕ) (x : A) → map f 
 map-set f [] i x = refl
 map-set f (y ∷ l) zero x = refl
 map-set f (y ∷ l) (suc i) x = ap (λ (m : List _). f y ∷ m) (map-set f l i x)
-
--- of what is checked behind a check that accepts, it is that
-past : (n m : ℕ) → n ≡ 0 → orElse n m ≡ m
-past n m e = rw e refl
 
 -- where a mark is returned to, it is set
 some-set : (run : Run) (n p held : ℕ) → returnRefusal run (optional n p) ≡ 0 → Option·getD (optional n p) held ≡ p
@@ -133,56 +130,56 @@ module _ (call : Call) (before : Player) (silent : numberShown call (plainPlayer
       promised (w .0 ∙ sym z)
       (w .1 ∙ e ∙ ap (λ (n : ℕ). unlessRefused n before (fieldsChanged call before)) (sym z))
 
+  -- it moves, if the position is one of the run's
+  pub arrived-promise : (q : ℕ) {r : Outcome} → callRefusal call (plainPlayer before) ≡ offRun (before .run) q →
+      fieldsChanged call before ≡ at before q →
+      (r .refusal ≡ offRun (before .run) q) × (r .player ≡ unlessRefused (offRun (before .run) q) before (at before q)) →
+      PlayerPromise call before (r .player) (told (r .refusal))
+  arrived-promise q e f w =
+      promised (w .0 ∙ sym e) (w .1 ∙ ap₂ (λ (n : ℕ) (p : Player). unlessRefused n before p) (sym e) (sym f))
+
 -- What a record holds that passes the check which comes first.
 pub record Held (player : Player) : Type 0 where
   pub passed : heldRefusal (plainPlayer player) ≡ 0
   pub run : runRefusal (player .run) ≡ 0
+  pub below : leb (player .run .count) (player .position) ≡ false
   pub on : player .position < player .run .count
 
 pub held-passed : (player : Player) → heldRefusal (plainPlayer player) ≡ 0 → Held player
 held-passed player e =
     let parts = or-else-none (runRefusal (player .run)) _ e in
-    record {
-      passed = e;
-      run = parts .0;
-      on = leb-false (player .run .count) (player .position) (cond-none (leb (player .run .count) (player .position)) 11 0 (parts .1) .0);
-    }
+    let below = cond-none (leb (player .run .count) (player .position)) 11 0 (parts .1) .0 in
+    record { passed = e; run = parts .0; below = below; on = leb-false (player .run .count) (player .position) below }
 
 -- The refusals behind that check.
 module _ {player : Player} (held : Held player) where
   pub forward-off : (k : ℕ) → player .run .count ≤ player .position + k → 12 ≡ callRefusal (Forward k) (plainPlayer player)
-  forward-off k h = sym (past _ _ (held .passed) ∙ ap (λ (b : Bool). cond b 12 0) (le-leb _ _ h))
+  forward-off k h = simp (held .run, held .below, le-leb (player .run .count) (player .position + k) h)
 
-  pub forward-on : (k : ℕ) → player .position + k < player .run .count → callRefusal (Forward k) (plainPlayer player) ≡ 0
-  forward-on k h = past _ _ (held .passed) ∙ ap (λ (b : Bool). cond b 12 0) (lt-leb _ _ h)
+  pub forward-to : (k : ℕ) → callRefusal (Forward k) (plainPlayer player) ≡ offRun (player .run) (player .position + k)
+  forward-to k = simp (held .run, held .below)
 
   pub back-off : (k : ℕ) → player .position < k → 12 ≡ callRefusal (Back k) (plainPlayer player)
-  back-off k h = sym (past _ _ (held .passed) ∙ ap (λ (b : Bool). cond b 12 0) (le-leb _ _ h))
+  back-off k h = simp (held .run, held .below, le-leb (suc (player .position)) k h)
 
   pub back-on : (k : ℕ) → k ≤ player .position → callRefusal (Back k) (plainPlayer player) ≡ 0
-  back-on k h = past _ _ (held .passed) ∙ ap (λ (b : Bool). cond b 12 0) (lt-leb (suc (player .position)) k (omega arith))
+  back-on k h = simp (held .run, held .below, lt-leb (suc (player .position)) k (omega arith))
 
-  pub mark-above : (m : ℕ) → 3 < m → 13 ≡ callRefusal (SetMark m) (plainPlayer player)
-  mark-above m h = sym (past _ _ (held .passed) ∙ ap (λ (b : Bool). cond b 13 0) (le-leb 4 m h))
+  pub mark-above : (m : ℕ) → 4 ≤ m → 13 ≡ callRefusal (SetMark m) (plainPlayer player)
+  mark-above m h = simp (held .run, held .below, le-leb 4 m h)
 
-  pub mark-taken : (m : ℕ) → m ≤ 3 → callRefusal (SetMark m) (plainPlayer player) ≡ 0
-  mark-taken m h = past _ _ (held .passed) ∙ ap (λ (b : Bool). cond b 13 0) (lt-leb 4 m (omega arith))
+  pub mark-taken : (m : ℕ) → m < 4 → callRefusal (SetMark m) (plainPlayer player) ≡ 0
+  mark-taken m h = simp (held .run, held .below, lt-leb 4 m h)
 
-  pub return-above : (m : ℕ) → 3 < m → 13 ≡ callRefusal (Return m) (plainPlayer player)
-  return-above m h =
-      sym
-      (past _ _ (held .passed)
-      ∙ ap (λ (b : Bool). returnRefusal (player .run) (cond b none (getD (map plainMark (player .marks)) m none))) (le-leb 4 m h))
+  pub return-above : (m : ℕ) → 4 ≤ m → 13 ≡ callRefusal (Return m) (plainPlayer player)
+  return-above m h = simp (held .run, held .below, le-leb 4 m h)
 
   -- of a mark that there is, what it holds decides
-  module _ (m : ℕ) (h : m ≤ 3) {mark : Mark} (is : mark ≡ getD (player .marks) m unset) where
-    by-mark : callRefusal (Return m) (plainPlayer player) ≡ returnRefusal (player .run) (plainMark mark)
+  module _ (m : ℕ) (h : m < 4) {mark : Mark} (is : mark ≡ getD (player .marks) m unset) where
+    by-mark : callRefusal (Return m) (plainPlayer player) ≡ returnRefusal (player .run) (optional (mark .set) (mark .position))
     by-mark =
-        past _ _ (held .passed)
-        ∙ ap (returnRefusal (player .run))
-        (ap (λ (b : Bool). cond b none (getD (map plainMark (player .marks)) m none)) (lt-leb 4 m (omega arith))
-        ∙ List·getD-map plainMark (player .marks) m unset
-        ∙ sym (ap plainMark is))
+        simp (held .run, held .below, lt-leb 4 m h)
+        (ap (returnRefusal (player .run)) (List·getD-map plainMark (player .marks) m unset ∙ sym (ap plainMark is)))
 
     pub return-unset : mark .set ≡ 0 → 13 ≡ callRefusal (Return m) (plainPlayer player)
     return-unset z = sym (by-mark ∙ ap (λ (n : ℕ). returnRefusal (player .run) (optional n (mark .position))) z)
@@ -191,11 +188,8 @@ module _ {player : Player} (held : Held player) where
     set-mark zero s = absurd (s refl)
     set-mark (suc n) s = refl
 
-    pub return-off : (mark .set ≡ 0 → ⊥) → player .run .count ≤ mark .position → 12 ≡ callRefusal (Return m) (plainPlayer player)
-    return-off s off = sym (by-mark ∙ set-mark _ s ∙ ap (λ (b : Bool). cond b 12 0) (le-leb _ _ off))
-
-    pub return-on : (mark .set ≡ 0 → ⊥) → mark .position < player .run .count → callRefusal (Return m) (plainPlayer player) ≡ 0
-    return-on s on = by-mark ∙ set-mark _ s ∙ ap (λ (b : Bool). cond b 12 0) (lt-leb _ _ on)
+    pub return-to : (mark .set ≡ 0 → ⊥) → callRefusal (Return m) (plainPlayer player) ≡ offRun (player .run) (mark .position)
+    return-to s = by-mark ∙ set-mark _ s
 
 -- Show changes nothing.
 pub shown-promise : (player : Player) {reply : ValueReply} → reply ≡ answer Show (plainPlayer player) → PlayerPromise Show player player reply

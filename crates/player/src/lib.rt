@@ -11,6 +11,7 @@ use refusals::ValueReply;
 use refusals::of_value;
 use runs::Run;
 use states::accepted;
+use states::arrived;
 use states::declined;
 use states::moved;
 
@@ -39,22 +40,24 @@ pub struct Outcome {
 }
 
 // Opens a run at position 0, with no mark set.
-pub fn opened(player: Player, run: Run) -> Outcome
-    ensures { λ r. ⌜ PlayerPromise (Open run) player (r .player) (told (r .refusal)) ⌝ }
+pub fn opened(before: Player, run: Run) -> Outcome
+    ensures { λ r. ⌜ PlayerPromise (Open run) before (r .player) (told (r .refusal)) ⌝ }
 {
-    let verdict = runs::checked(run);
-    if let Check::Refused(refusal) = verdict {
-        return declined(refusal, player);
-    }
     let unset = Mark {
         set: 0,
         position: 0,
     };
-    accepted(Player {
+    let marks = [unset; 4];
+    let fresh = Player {
         run,
         position: 0,
-        marks: [unset; 4],
-    })
+        marks,
+    };
+    let verdict = runs::checked(run);
+    if let Check::Refused(refusal) = verdict {
+        return declined(refusal, before);
+    }
+    accepted(fresh)
 }
 
 // Moves on by this many positions.
@@ -65,10 +68,10 @@ pub fn forwarded(player: Player, steps: u64) -> Outcome
     if let Check::Refused(refusal) = verdict {
         return declined(refusal, player);
     }
-    if player.run.count - player.position <= steps {
+    if u64::MAX - player.position < steps {
         return declined(Refusal::PositionOutOfRange, player);
     }
-    accepted(moved(player, player.position + steps))
+    arrived(player, player.position + steps)
 }
 
 // Moves back by this many positions, whatever the multiplier.
@@ -108,25 +111,22 @@ pub fn marked(player: Player, mark: u64) -> Outcome
 }
 
 // Returns to a mark that is set. Its position is looked at here, and not before.
-pub fn returned(player: Player, mark: u64) -> Outcome
-    ensures { λ r. ⌜ PlayerPromise (Return mark) player (r .player) (told (r .refusal)) ⌝ }
+pub fn returned(player: Player, to: u64) -> Outcome
+    ensures { λ r. ⌜ PlayerPromise (Return to) player (r .player) (told (r .refusal)) ⌝ }
 {
     let verdict = held(player);
     if let Check::Refused(refusal) = verdict {
         return declined(refusal, player);
     }
-    if 3 < mark {
+    if 3 < to {
         return declined(Refusal::BookmarkInvalid, player);
     }
     let marks = player.marks;
-    let target = marks[mark as usize];
+    let target = marks[to as usize];
     if target.set == 0 {
         return declined(Refusal::BookmarkInvalid, player);
     }
-    if player.run.count <= target.position {
-        return declined(Refusal::PositionOutOfRange, player);
-    }
-    accepted(moved(player, target.position))
+    arrived(player, target.position)
 }
 
 // The number at the position held, in plain numbers.

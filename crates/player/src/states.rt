@@ -1,25 +1,29 @@
 // What a call leaves.
 ghost use mathlib.Core.Path.{_≡_};
 ghost use Rattle.refusals.specs.Refusals.{numberOf};
+ghost use Rattle.player.specs.PlainPlayer.{offRun, unlessRefused};
 ghost use Rattle.player.specs.Player.{at};
 use crate::Outcome;
 use crate::Player;
 use refusals::Refusal;
 
 // A declined call leaves the record as it was.
-pub fn declined(refusal: Refusal, player: Player) -> Outcome
-    ensures { λ r. ⌜ (r .refusal ≡ numberOf refusal) × (r .player ≡ player) ⌝ }
+pub fn declined(refusal: Refusal, before: Player) -> Outcome
+    ensures { λ r. ⌜ (r .refusal ≡ numberOf refusal) × (r .player ≡ before) ⌝ }
 {
     Outcome {
         refusal: refusals::number(refusal),
-        player,
+        player: before,
     }
 }
 
-pub fn accepted(player: Player) -> Outcome
-    ensures { λ r. ⌜ (r .refusal ≡ 0) × (r .player ≡ player) ⌝ }
+pub fn accepted(after: Player) -> Outcome
+    ensures { λ r. ⌜ (r .refusal ≡ 0) × (r .player ≡ after) ⌝ }
 {
-    Outcome { refusal: 0, player }
+    Outcome {
+        refusal: 0,
+        player: after,
+    }
 }
 
 // The record at another position.
@@ -33,4 +37,16 @@ pub fn moved(player: Player, position: u64) -> Player
         position,
         marks,
     }
+}
+
+// Moves to a position, if it is one of the run's.
+pub fn arrived(player: Player, position: u64) -> Outcome
+    ensures { λ r. ⌜ (r .refusal ≡ offRun (player .run) position)
+        × (r .player ≡ unlessRefused (offRun (player .run) position) player (at player position)) ⌝ }
+{
+    let there = moved(player, position);
+    if player.run.count <= position {
+        return declined(Refusal::PositionOutOfRange, player);
+    }
+    accepted(there)
 }

@@ -1,7 +1,8 @@
 //! The arguments and replies of the calls, and what the implementations beside the library share.
 
 pub use noonpasture::raw::{
-    GapReply, IndexReply, LookupReply, OrbitReply, Part, PlacesReply, RunReply, SummaryReply, Value,
+    GapReply, IndexReply, LookupReply, Mark, OrbitReply, Part, PlacesReply, Player, RunReply, SummaryReply,
+    Value,
 };
 pub use noonpasture::{Generator, Run};
 
@@ -16,8 +17,21 @@ pub const BUFFER_TOO_SHORT: u64 = 8;
 pub const PLACES_OUT_OF_RANGE: u64 = 9;
 pub const TOTAL_OVERFLOW: u64 = 10;
 pub const DUPLICATE_LINE: u64 = 11;
+pub const POSITION_OUT_OF_RANGE: u64 = 12;
+pub const BOOKMARK_INVALID: u64 = 13;
 
 pub const ARCHIVE_LIMIT: usize = 65_536;
+
+/// A call on a player.
+#[derive(Clone, Copy, Debug)]
+pub enum PlayerCall {
+    Open(Run),
+    Forward(u64),
+    Back(u64),
+    Mark(u64),
+    Return(u64),
+    Show,
+}
 
 /// The period of a reply as a number.
 pub fn period_of(reply: OrbitReply) -> u128 {

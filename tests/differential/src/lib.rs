@@ -5,6 +5,7 @@ pub mod calls;
 pub mod formula;
 pub mod model;
 pub mod peers;
+pub mod players;
 pub mod prime;
 pub mod random;
 pub mod same_method;

@@ -1,12 +1,14 @@
 //! Every call of the header once more, independently: sequences by stepping where that is short and by
 //! formula elsewhere, at width 0 by powers and baby steps, lines by splitting the bytes, equal lines by a set
-//! of the earlier ones.
+//! of the earlier ones; the player in `player`.
 
 use std::collections::HashSet;
 
 use crate::calls::*;
 use crate::trail::{low, step, Trail};
 use crate::{formula, prime};
+
+pub mod player;
 
 /// Up to this width odd multipliers are stepped through; even ones always are.
 const STEPPED_WIDTH: u64 = 8;
@@ -445,6 +447,32 @@ mod tests {
         }
     }
 
+    fn player_call(code: u64, run: Run, argument: u64) -> PlayerCall {
+        match code {
+            0 => PlayerCall::Open(run),
+            1 => PlayerCall::Forward(argument),
+            2 => PlayerCall::Back(argument),
+            3 => PlayerCall::Mark(argument),
+            4 => PlayerCall::Return(argument),
+            5 => PlayerCall::Show,
+            _ => panic!("no call {code} on a player"),
+        }
+    }
+
+    /// The record after it too.
+    fn reply_on_player(n: &[u64]) -> Vec<u64> {
+        let run = |n: &[u64]| Run { generator: generator(n), first: n[4], count: n[5] };
+        let marks = std::array::from_fn(|at| Mark { set: n[7 + 2 * at], position: n[8 + 2 * at] });
+        let mut player = Player { run: run(n), position: n[6], marks };
+        let mut reply = Value::default();
+        for call in n[21..].chunks(2) {
+            reply = player::played(&mut player, player_call(call[0], run(&n[15..]), call[1]));
+        }
+        let run: [u64; 6] = player.run.into();
+        let marks = player.marks.map(|mark| [mark.set, mark.position]).concat();
+        [value(reply), run.into(), vec![player.position], marks].concat()
+    }
+
     /// The reply to one call of the vectors, its bytes without their count.
     fn reply(code: &str, n: &[u64]) -> Vec<u64> {
         let bytes = |from: usize| n[from + 1..].iter().map(|&byte| byte as u8).collect::<Vec<u8>>();
@@ -475,6 +503,7 @@ mod tests {
                 let r = summary(&bytes(0));
                 vec![r.refusal, r.line, r.line_count, r.total]
             }
+            "K" => reply_on_player(n),
             _ => reply_on_generator(code, n),
         }
     }

@@ -1,6 +1,7 @@
 -- `player::marked` meets its contract.
 use borrow.Author.Needs.{needs}
 use mathlib.Core.Path.{refl}
+use native.Mathlib.Omega.{arith}
 use Rattle.refusals.specs.declared.Refusal.the-variants as refusal
 use Rattle.refusals.proofs.Replies.{number-accepted, number-refused, refused-else}
 use Rattle.player.specs.PlainPlayer.{SetMark}
@@ -36,8 +37,9 @@ declined-requires-2 c κs = search needs
 
 returns-2 : tie.Need-returns-2
 returns-2 c =
+    let p = c .before .before in
     declined-promise (SetMark _) _ refl refusal.BookmarkInvalid
-    (mark-above (passed (c .before .before)) _ (c .before .if1 .taken))
+    (mark-above (passed p) (p .before .before .before .args .mark) (omega (arith, c .before .if1 .taken)))
     (c .declined2 .ensures)
 
 mul-marks : tie.Need-mul-marks
@@ -51,8 +53,10 @@ accepted-requires c κs = search needs
 
 returns-3 : tie.Need-returns-3
 returns-3 c =
+    let there = c .before .before .before in
+    let p = there .before in
     accepted-promise (SetMark _) _ refl
-    (mark-taken (passed (c .before .before .before .before)) _ (c .before .before .before .if1 .left))
+    (mark-taken (passed p) (p .before .before .before .args .mark) (omega (arith, there .if1 .left)))
     refl
     (c .accepted .ensures)
 

@@ -1,10 +1,11 @@
 -- `player::returned` meets its contract: of a mark that there is, what it holds decides.
 use borrow.Author.Needs.{needs}
 use mathlib.Core.Path.{refl}
+use native.Mathlib.Omega.{arith}
 use Rattle.refusals.specs.declared.Refusal.the-variants as refusal
 use Rattle.refusals.proofs.Replies.{number-accepted, number-refused, refused-else}
 use Rattle.player.specs.PlainPlayer.{Return}
-use Rattle.player.proofs.Promises.{Held, held-passed, declined-promise, accepted-promise, return-above, return-unset, return-off, return-on}
+use Rattle.player.proofs.Promises.{Held, held-passed, declined-promise, arrived-promise, return-above, return-unset, return-to}
 use Rattle.player.proofs.returned.Statement.{statement}
 use Rattle.player.proofs.returned.Tie as tie
 
@@ -36,8 +37,9 @@ declined-requires-2 c κs = search needs
 
 returns-2 : tie.Need-returns-2
 returns-2 c =
+    let p = c .before .before in
     declined-promise (Return _) _ refl refusal.BookmarkInvalid
-    (return-above (passed (c .before .before)) _ (c .before .if1 .taken))
+    (return-above (passed p) (p .before .before .before .args .to) (omega (arith, c .before .if1 .taken)))
     (c .declined2 .ensures)
 
 mul-target : tie.Need-mul-target
@@ -51,33 +53,21 @@ declined-requires-3 c κs = search needs
 
 returns-3 : tie.Need-returns-3
 returns-3 c =
+    let there = c .before .before .before .before .before in
     declined-promise (Return _) _ refl refusal.BookmarkInvalid
-    (return-unset (passed (c .before .before .before .before .before .before)) _ (c .before .before .before .before .before .if1 .left) refl (c .before .if2 .taken))
+    (return-unset (passed (there .before)) _ (omega (arith, there .if1 .left)) refl (c .before .if2 .taken))
     (c .declined3 .ensures)
 
-declined-requires-4 : tie.Need-declined-requires-4
-declined-requires-4 c κs = search needs
+arrived-requires : tie.Need-arrived-requires
+arrived-requires c κs = search needs
 
 returns-4 : tie.Need-returns-4
 returns-4 c =
-    declined-promise (Return _) _ refl refusal.PositionOutOfRange
-    (return-off (passed (c .before .before .before .before .before .before .before .before .before)) _
-    (c .before .before .before .before .before .before .before .before .if1 .left) refl (c .before .before .before .before .if2 .left) (c .before .if3 .taken))
-    (c .declined4 .ensures)
-
-moved-requires : tie.Need-moved-requires
-moved-requires c κs = search needs
-
-accepted-requires : tie.Need-accepted-requires
-accepted-requires c κs = search needs
-
-returns-5 : tie.Need-returns-5
-returns-5 c =
-    accepted-promise (Return _) _ refl
-    (return-on (passed (c .before .before .before .before .before .before .before .before .before .before)) _
-    (c .before .before .before .before .before .before .before .before .before .if1 .left) refl (c .before .before .before .before .before .if2 .left) (c .before .before .if3 .left))
-    (c .before .moved .ensures)
-    (c .accepted .ensures)
+    let there = c .before .before .before .before .before in
+    arrived-promise (Return _) _ refl _
+    (return-to (passed (there .before)) _ (omega (arith, there .if1 .left)) refl (c .before .if2 .left))
+    refl
+    (c .arrived .ensures)
 
 pub returned-spec : {M : Type 1} → statement M
 returned-spec =
@@ -94,8 +84,5 @@ returned-spec =
     array-copy-out-target
     declined-requires-3
     returns-3
-    declined-requires-4
-    returns-4
-    moved-requires
-    accepted-requires
-    returns-5)
+    arrived-requires
+    returns-4)

@@ -1,13 +1,14 @@
-//! Times the proved library against plain Rust of the same method and against the peers' way, and its
-//! gap and index_places against its index, in one run, as markdown tables:
+//! Times the proved library against plain Rust of the same method and against the peers' way, its gap and
+//! index_places against its index, the player's show against its element, and long moves of the player
+//! against short ones, in one run, as markdown tables:
 //!
 //!     cargo run --release --bin bench [-- [--plain] [ROWS]]
 //!
 //! Both sides get the same inputs in turn, round by round; a ratio is the median over the rounds.
 //! Buffers are not cleared first. With `--plain` there are no headings, tabs between the fields and
 //! more digits; with ROWS only the rows that begin with this text, as `lookup` or `index, distance`.
-//! Without the features `index-places` and `summary` the rows of these calls are left out, without
-//! `prime-modulus` those of width 0.
+//! Without the features `index-places`, `summary` and `player` the rows of these calls are left out,
+//! without `prime-modulus` those of width 0.
 
 use std::collections::HashSet;
 use std::env;
@@ -508,6 +509,159 @@ mod summaries {
     }
 }
 
+/// The rows of the player. They have random numbers of their own as well.
+#[cfg(feature = "player")]
+mod player {
+    use super::*;
+    use noonpasture_differential::prime;
+
+    /// Few enough to stay in the cache nearest to the processor.
+    const RECORDS: usize = 100;
+    const HALF: u64 = 1 << 63;
+
+    type Call = fn(&mut Player) -> u64;
+
+    /// The refusal and where the call leads. The position is put back behind the call, and not just before it, where
+    /// the call would wait for that number.
+    fn in_place(player: &mut Player, position: u64, call: Call) -> (u64, u64) {
+        let refusal = call(player);
+        (refusal, std::mem::replace(&mut player.position, position))
+    }
+
+    /// Which record, and where it stands.
+    fn places(players: &[Player]) -> Vec<(usize, u64)> {
+        players.iter().map(|player| player.position).enumerate().collect()
+    }
+
+    /// Each side has records of its own, which have to be equal at last.
+    fn altered(players: &[Player], library: Call, other: Call) -> Timing {
+        let (mut ours, mut theirs) = (players.to_vec(), players.to_vec());
+        let timing = measured(
+            &places(players),
+            |(at, position)| in_place(&mut ours[at], position, library),
+            |(at, position)| in_place(&mut theirs[at], position, other),
+        );
+        assert!(ours == theirs, "the two sides leave different records");
+        timing
+    }
+
+    /// Two calls of the library; that both are accepted is compared.
+    fn long_and_short(players: &[Player], long: Call, short: Call) -> Timing {
+        let (mut ours, mut theirs) = (players.to_vec(), players.to_vec());
+        measured(
+            &places(players),
+            |(at, position)| in_place(&mut ours[at], position, long).0,
+            |(at, position)| in_place(&mut theirs[at], position, short).0,
+        )
+    }
+
+    fn open(runs: &[Run]) -> Timing {
+        let (mut ours, mut theirs) = (Player::default(), Player::default());
+        let timing = measured(
+            runs,
+            |run| (library::player_open(&mut ours, run), ours.run.first),
+            |run| (same_method::player_open(&mut theirs, run), theirs.run.first),
+        );
+        assert!(ours == theirs, "the two sides leave different records");
+        timing
+    }
+
+    fn show(players: &[Player]) -> Timing {
+        let players: Vec<&Player> = players.iter().collect();
+        measured(&players, library::player_show, same_method::player_show)
+    }
+
+    /// The library's two calls.
+    fn show_and_element(players: &[Player]) -> Timing {
+        let players: Vec<&Player> = players.iter().collect();
+        measured(&players, library::player_show, |player| {
+            library::element(player.run.generator, player.run.first + player.position)
+        })
+    }
+
+    /// On the longest run of all, in its first half, with marks anywhere on it.
+    fn early_record(r: &mut Random) -> Player {
+        let run = Run { generator: wide_generator(r), first: 0, count: u64::MAX };
+        let marks = std::array::from_fn(|_| Mark { set: 1, position: r.below(u64::MAX) });
+        Player { run, position: r.below(HALF - 1), marks }
+    }
+
+    /// At any position of a run where that shows an index of so many bits.
+    fn at_index(r: &mut Random, generator: Generator, bits: u64) -> Player {
+        let index = (1 << (bits - 1) | r.bits(bits)).min(u64::MAX - 1);
+        let first = r.below(index + 1);
+        let run = Run { generator, first, count: u64::MAX - first };
+        Player { run, position: index - first, ..Player::default() }
+    }
+
+    fn moves(out: &Output, early: &[Player], late: &[Player]) {
+        out.row("player_forward", "1 step", || {
+            altered(early, |p| library::player_forward(p, 1), |p| same_method::player_forward(p, 1))
+        });
+        out.row("player_forward", "2^63 steps", || {
+            altered(early, |p| library::player_forward(p, HALF), |p| same_method::player_forward(p, HALF))
+        });
+        out.row("player_back", "1 step", || {
+            altered(late, |p| library::player_back(p, 1), |p| same_method::player_back(p, 1))
+        });
+        out.row("player_back", "2^63 steps", || {
+            altered(late, |p| library::player_back(p, HALF), |p| same_method::player_back(p, HALF))
+        });
+        out.row("player_mark", "mark 2", || {
+            altered(early, |p| library::player_mark(p, 2), |p| same_method::player_mark(p, 2))
+        });
+        out.row("player_return", "mark 2", || {
+            altered(early, |p| library::player_return(p, 2), |p| same_method::player_return(p, 2))
+        });
+    }
+
+    fn long_moves(out: &Output, early: &[Player], late: &[Player]) {
+        out.heading("long moves beside short ones", "1 step");
+        out.row("player_forward, player_forward", "2^63 steps, 1 step", || {
+            long_and_short(early, |p| library::player_forward(p, HALF), |p| library::player_forward(p, 1))
+        });
+        out.row("player_back, player_back", "2^63 steps, 1 step", || {
+            long_and_short(late, |p| library::player_back(p, HALF), |p| library::player_back(p, 1))
+        });
+    }
+
+    /// Records that show indices of so many bits at this width, and what they are called.
+    fn shown(r: &mut Random, width: u64, bits: u64) -> (String, Vec<Player>) {
+        let one = |_| {
+            let generator = match width {
+                0 => prime::generator(1 + r.below(prime::PERIOD)),
+                _ => full_period_generator(r, width),
+            };
+            at_index(r, generator, bits)
+        };
+        (format!("width {width}, index of {bits} bits"), several(one))
+    }
+
+    fn shows(out: &Output, r: &mut Random) {
+        let sizes = [(64, 8), (64, 16), (64, 32), (64, 64), (8, 64), (16, 64), (32, 64), (0, 64)];
+        let inputs = sizes.map(|(width, bits)| shown(r, width, bits));
+        out.heading("show", "Rust");
+        inputs.iter().for_each(|(input, players)| out.row("player_show", input, || show(players)));
+        out.heading("show beside element", "element");
+        for (input, players) in &inputs {
+            out.row("player_show, element", input, || show_and_element(players));
+        }
+    }
+
+    pub fn rows(out: &Output) {
+        let r = &mut Random::new(SEED + 6);
+        out.heading("player", "Rust");
+        let runs = several(|_| wide_run(r));
+        out.row("player_open", "width 64", || open(&runs));
+        let early: Vec<Player> = (0..RECORDS).map(|_| early_record(r)).collect();
+        let further = |player: &Player| Player { position: player.position + HALF, ..*player };
+        let late: Vec<Player> = early.iter().map(further).collect();
+        moves(out, &early, &late);
+        long_moves(out, &early, &late);
+        shows(out, r);
+    }
+}
+
 fn main() {
     let (flags, words): (Vec<_>, Vec<_>) = env::args().skip(1).partition(|word| word == "--plain");
     let out = Output { plain: !flags.is_empty(), rows: words.join(" ") };
@@ -524,4 +678,6 @@ fn main() {
     prime_modulus::rows(&out);
     #[cfg(feature = "summary")]
     summaries::rows(&out);
+    #[cfg(feature = "player")]
+    player::rows(&out);
 }

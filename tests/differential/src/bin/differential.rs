@@ -2,8 +2,9 @@
 //! their low bits, at widths 1 to 4 on all short runs for the variety and all pairs of numbers for the
 //! gap, at width 0 on every digit of the index by itself, for the summary on chosen sums, cut archives and
 //! every changed byte, for equal lines on twins at every place, almost equal lines and lines of one slot, on
-//! numbers whose lower bits are accepted ones, and on random calls, accepted and refused. Ends with status 1
-//! at the first difference.
+//! numbers whose lower bits are accepted ones, for the player on all short lists of chosen calls and on random
+//! lists, and on random calls, accepted and refused. Ends with status 1 at the first difference, and if an outcome
+//! of the player's calls is not met often.
 //!
 //!     cargo run --release --bin differential
 
@@ -16,13 +17,15 @@ use noonpasture_differential::archives::{lines_with, with_line, ABOUT_TWINS, BAD
 use noonpasture_differential::calls::*;
 use noonpasture_differential::random::Random;
 use noonpasture_differential::samples::MakeRun;
-use noonpasture_differential::{library, model, prime, samples};
+use noonpasture_differential::{library, model, players, prime, samples};
 
 /// The work is halved between two threads, each with random numbers of its own.
 const SHARES: u64 = 2;
 const RANDOM_CALLS: u64 = 1_000_000;
 /// At width 0, where the model's index takes long.
 const PRIME_CALLS: u64 = 100_000;
+/// Of all kinds together: about a million openings, which are the fewest.
+const PLAYER_CALLS: u64 = 12_000_000;
 const SEED: u64 = 20_260_101;
 
 #[derive(Clone, Copy)]
@@ -42,9 +45,15 @@ enum Kind {
     Lookup,
     Summary,
     Remake,
+    PlayerOpen,
+    PlayerForward,
+    PlayerBack,
+    PlayerMark,
+    PlayerReturn,
+    PlayerShow,
 }
 
-const KINDS: [&str; 15] = [
+const KINDS: [&str; 21] = [
     "element",
     "orbit",
     "index",
@@ -60,13 +69,20 @@ const KINDS: [&str; 15] = [
     "lookup",
     "summary",
     "remake",
+    "player_open",
+    "player_forward",
+    "player_back",
+    "player_mark",
+    "player_return",
+    "player_show",
 ];
 
 /// What replies are counted by: an answer, a refusal by its number, or nothing, which is never,
 /// none, the empty part or no number remade.
-const OUTCOMES: [&str; 13] = ["answer", "1", "2", "3", "4", "5", "6", "7", "8", "9", "10", "11", "nothing"];
+const OUTCOMES: [&str; 15] =
+    ["answer", "1", "2", "3", "4", "5", "6", "7", "8", "9", "10", "11", "12", "13", "nothing"];
 const ANSWER: usize = 0;
-const NOTHING: usize = 12;
+const NOTHING: usize = 14;
 
 trait Reply: PartialEq + Debug {
     fn refusal(&self) -> u64;
@@ -169,6 +185,13 @@ impl<T: PartialEq + Debug, const LENGTH: usize> Reply for (Value, [T; LENGTH]) {
     }
 }
 
+/// A reply with the player's later record.
+impl Reply for (Value, Player) {
+    fn refusal(&self) -> u64 {
+        self.0.refusal
+    }
+}
+
 /// Shown as text.
 struct Bytes<'a>(&'a [u8]);
 
@@ -191,6 +214,17 @@ impl Tally {
             std::process::exit(1);
         }
         self.0[kind as usize][model.outcome()] += 1;
+    }
+
+    /// Ends the program unless calls of this kind had each of these outcomes so often.
+    fn met(&self, kind: Kind, outcomes: &[usize], least: u64) {
+        for &outcome in outcomes {
+            let count = self.0[kind as usize][outcome];
+            if count < least {
+                println!("{} had outcome {} only {count} times", KINDS[kind as usize], OUTCOMES[outcome]);
+                std::process::exit(1);
+            }
+        }
     }
 
     fn add(&mut self, other: Tally) {
@@ -306,6 +340,19 @@ impl Tally {
 
     fn summary(&mut self, archive: &[u8]) {
         self.compare(Kind::Summary, &Bytes(archive), library::summary(archive), model::summary(archive));
+    }
+
+    /// The whole record is compared afterwards, and after a refused call with what it was before. Gives the record.
+    fn player(&mut self, before: Player, call: PlayerCall) -> Player {
+        let (kind, mut ours, mut theirs) = (kind_of(call), before, before);
+        let library = played(&mut ours, call);
+        let model = model::player::played(&mut theirs, call);
+        self.compare(kind, &(before, call), (library, ours), (model, theirs));
+        if library.refusal != 0 && ours != before {
+            println!("{} is refused and changes {before:?}\nto {ours:?}: {call:?}", KINDS[kind as usize]);
+            std::process::exit(1);
+        }
+        ours
     }
 }
 
@@ -688,6 +735,79 @@ fn chosen_twins() -> Tally {
     tally
 }
 
+// Players.
+
+fn kind_of(call: PlayerCall) -> Kind {
+    match call {
+        PlayerCall::Open(_) => Kind::PlayerOpen,
+        PlayerCall::Forward(_) => Kind::PlayerForward,
+        PlayerCall::Back(_) => Kind::PlayerBack,
+        PlayerCall::Mark(_) => Kind::PlayerMark,
+        PlayerCall::Return(_) => Kind::PlayerReturn,
+        PlayerCall::Show => Kind::PlayerShow,
+    }
+}
+
+/// The library's reply; beside show its refusal and 0.
+fn played(player: &mut Player, call: PlayerCall) -> Value {
+    let refusal = match call {
+        PlayerCall::Open(run) => library::player_open(player, run),
+        PlayerCall::Forward(steps) => library::player_forward(player, steps),
+        PlayerCall::Back(steps) => library::player_back(player, steps),
+        PlayerCall::Mark(mark) => library::player_mark(player, mark),
+        PlayerCall::Return(mark) => library::player_return(player, mark),
+        PlayerCall::Show => return library::player_show(player),
+    };
+    Value { refusal, value: 0 }
+}
+
+/// All lists of up to so many calls, each from the record that the calls before it left.
+fn lists_from(tally: &mut Tally, calls: &[PlayerCall], player: Player, longest: u64) {
+    if longest == 0 {
+        return;
+    }
+    for &call in calls {
+        let after = tally.player(player, call);
+        lists_from(tally, calls, after, longest - 1);
+    }
+}
+
+fn all_short_lists() -> Tally {
+    let mut tally = Tally::default();
+    for player in players::chosen_records() {
+        lists_from(&mut tally, &players::chosen_calls(), player, 4);
+    }
+    tally
+}
+
+/// Lists of up to 32 calls.
+fn random_lists(share: u64) -> Tally {
+    let mut tally = Tally::default();
+    let mut r = Random::new(SEED + 5 * SHARES + share);
+    let mut left = PLAYER_CALLS / SHARES;
+    while left > 0 {
+        let length = left.min(1 + r.below(32));
+        let (mut player, mut call) = players::beginning(&mut r);
+        for _ in 0..length {
+            player = tally.player(player, call);
+            call = players::call(&mut r, player);
+        }
+        left -= length;
+    }
+    tally
+}
+
+/// Each outcome that a call of the player can have was met so often.
+fn all_met(tally: &Tally, least: u64) {
+    tally.met(Kind::PlayerOpen, &[ANSWER, 3, 4, 5], least);
+    for kind in [Kind::PlayerForward, Kind::PlayerBack, Kind::PlayerShow] {
+        tally.met(kind, &[ANSWER, 3, 4, 5, 12], least);
+    }
+    for kind in [Kind::PlayerMark, Kind::PlayerReturn] {
+        tally.met(kind, &[ANSWER, 3, 4, 5, 12, 13], least);
+    }
+}
+
 // Random calls.
 
 /// Makes the generators of random calls.
@@ -880,5 +1000,9 @@ fn main() {
     shared(random_prime_indices).print("width 0, numbers from their indices");
     shared(random_prime_calls).print("width 0, random calls");
     shared(random_calls_beyond).print("beyond 8, 16 and 32 bits");
+    all_short_lists().print("player, all lists of four calls");
+    let lists = shared(random_lists);
+    lists.print("player, random lists");
+    all_met(&lists, PLAYER_CALLS / 10_000);
     println!("\nno difference, {} seconds", start.elapsed().as_secs());
 }

@@ -1,7 +1,7 @@
 -- Lists of calls: each call promises what the plain player answers and leaves, so by induction any list does, whatever the record
 -- before it. After an accepted open nothing of that record is left.
 use mathlib.Core.Path.{_≡_, refl, ap, ap₂, _∙_}
-use mathlib.Core.List.{List, [], _∷_}
+use mathlib.Core.List.{List, _∷_}
 use Prim.Native.Nat.{ℕ}
 use Rattle.refusals.specs.declared.ValueReply.{ValueReply}
 use Rattle.refusals.specs.Replies.{valueReply}

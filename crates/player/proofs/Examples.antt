@@ -10,20 +10,9 @@ use Rattle.runs.specs.declared.Run.{Run}
 use Rattle.runs.specs.Run.{shows, runRefusal}
 use Rattle.runs.proofs.Examples.{run}
 use Rattle.player.specs.declared.Player.{Player}
-use Rattle.player.specs.PlainPlayer.{
-  PlainPlayer,
-  Call,
-  Open,
-  Forward,
-  Back,
-  SetMark,
-  Return,
-  Show,
-  opened,
-  callRefusal,
-}
+use Rattle.player.specs.PlainPlayer.{Call, Open, Forward, Back, SetMark, Return, Show, opened, callRefusal}
 use Rattle.player.specs.Player.{plainPlayer, unset, fieldsAfter, told}
-use Rattle.player.specs.Calls.{answersTo, lastPlayer, lastFields}
+use Rattle.player.specs.Calls.{answersTo, lastPlayer}
 
 abbrev second : Run
 second = run 10 371 995 73 100 8

@@ -1,9 +1,9 @@
 -- The ways out of a call. What an accepted call leaves of the record stands for what the plain player would be: each field is
 -- changed alike, and a mark that is returned to is set. A declined call leaves the record, so the plain player too.
-use mathlib.Core.Path.{_≡_, refl, sym, ap, ap₂, subst, _∙_}
+use mathlib.Core.Path.{_≡_, refl, sym, ap, subst, _∙_}
 use mathlib.Core.Bool.{Bool, true, false, cond}
 use mathlib.Core.List.{List, [], _∷_, map}
-use mathlib.Core.Option.{Option, none, some, Option·getD}
+use mathlib.Core.Option.{Option, none, Option·getD}
 use Prim.Native.Nat.{ℕ, zero, suc, _+_, _≤_, _<_}
 use native.Mathlib.Omega.{arith}
 use lib.Dec.{leb}
@@ -20,38 +20,11 @@ use Rattle.runs.specs.Run.{runRefusal}
 use Rattle.player.specs.declared.Mark.{Mark}
 use Rattle.player.specs.declared.Player.{Player}
 use Rattle.player.specs.declared.Outcome.{Outcome}
-use Rattle.player.specs.PlainPlayer.{
-  PlainPlayer,
-  Call,
-  Open,
-  Forward,
-  Back,
-  SetMark,
-  Return,
-  Show,
-  offRun,
-  heldRefusal,
-  returnRefusal,
-  callRefusal,
-  movedTo,
-  changed,
-  unlessRefused,
-  playerAfter,
-  numberShown,
-  answer,
-}
-use Rattle.player.specs.Player.{
-  optional,
-  plainMark,
-  plainPlayer,
-  unset,
-  setAt,
-  at,
-  fieldsChanged,
-  fieldsAfter,
-  PlayerPromise,
-  told,
-}
+use Rattle.player.specs.PlainPlayer.{Call, Open, Forward, Back, SetMark, Return, Show, offRun, heldRefusal}
+use Rattle.player.specs.PlainPlayer.{returnRefusal, callRefusal, movedTo, changed, unlessRefused, playerAfter}
+use Rattle.player.specs.PlainPlayer.{numberShown, answer}
+use Rattle.player.specs.Player.{optional, plainMark, plainPlayer, unset, setAt, fieldsChanged, fieldsAfter}
+use Rattle.player.specs.Player.{PlayerPromise, told}
 
 -- a mark that is set anew is the one that is set
 map-set : {A B : Type 0} (f : A → B) (l : List A) (i : ℕ) (x : A) → map f (set l i x) ≡ set (map f l) i (f x)
@@ -130,14 +103,6 @@ module _ (call : Call) (before : Player) (silent : numberShown call (plainPlayer
       promised (w .0 ∙ sym z)
       (w .1 ∙ e ∙ ap (λ (n : ℕ). unlessRefused n before (fieldsChanged call before)) (sym z))
 
-  -- it moves, if the position is one of the run's
-  pub arrived-promise : (q : ℕ) {r : Outcome} → callRefusal call (plainPlayer before) ≡ offRun (before .run) q →
-      fieldsChanged call before ≡ at before q →
-      (r .refusal ≡ offRun (before .run) q) × (r .player ≡ unlessRefused (offRun (before .run) q) before (at before q)) →
-      PlayerPromise call before (r .player) (told (r .refusal))
-  arrived-promise q e f w =
-      promised (w .0 ∙ sym e) (w .1 ∙ ap₂ (λ (n : ℕ) (p : Player). unlessRefused n before p) (sym e) (sym f))
-
 -- What a record holds that passes the check which comes first.
 pub record Held (player : Player) : Type 0 where
   pub passed : heldRefusal (plainPlayer player) ≡ 0
@@ -156,8 +121,8 @@ module _ {player : Player} (held : Held player) where
   pub forward-off : (k : ℕ) → player .run .count ≤ player .position + k → 12 ≡ callRefusal (Forward k) (plainPlayer player)
   forward-off k h = simp (held .run, held .below, le-leb (player .run .count) (player .position + k) h)
 
-  pub forward-to : (k : ℕ) → callRefusal (Forward k) (plainPlayer player) ≡ offRun (player .run) (player .position + k)
-  forward-to k = simp (held .run, held .below)
+  pub forward-on : (k : ℕ) → player .position + k < player .run .count → callRefusal (Forward k) (plainPlayer player) ≡ 0
+  forward-on k h = simp (held .run, held .below, lt-leb (player .run .count) (player .position + k) h)
 
   pub back-off : (k : ℕ) → player .position < k → 12 ≡ callRefusal (Back k) (plainPlayer player)
   back-off k h = simp (held .run, held .below, le-leb (suc (player .position)) k h)
@@ -188,8 +153,11 @@ module _ {player : Player} (held : Held player) where
     set-mark zero s = absurd (s refl)
     set-mark (suc n) s = refl
 
-    pub return-to : (mark .set ≡ 0 → ⊥) → callRefusal (Return m) (plainPlayer player) ≡ offRun (player .run) (mark .position)
-    return-to s = by-mark ∙ set-mark _ s
+    pub return-off : (mark .set ≡ 0 → ⊥) → player .run .count ≤ mark .position → 12 ≡ callRefusal (Return m) (plainPlayer player)
+    return-off s off = sym (by-mark ∙ set-mark _ s ∙ ap (λ (b : Bool). cond b 12 0) (le-leb _ _ off))
+
+    pub return-on : (mark .set ≡ 0 → ⊥) → mark .position < player .run .count → callRefusal (Return m) (plainPlayer player) ≡ 0
+    return-on s on = by-mark ∙ set-mark _ s ∙ ap (λ (b : Bool). cond b 12 0) (lt-leb _ _ on)
 
 -- Show changes nothing.
 pub shown-promise : (player : Player) {reply : ValueReply} → reply ≡ answer Show (plainPlayer player) → PlayerPromise Show player player reply

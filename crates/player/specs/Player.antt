@@ -1,26 +1,14 @@
 -- The player's record: which plain player it stands for, every field of it after a call, and the promise of each call.
 use mathlib.Core.Path.{_≡_}
-use mathlib.Core.List.{List, [], _∷_, map}
+use mathlib.Core.List.{[], _∷_, map}
 use mathlib.Core.Option.{Option, none, some}
 use Prim.Native.Nat.{ℕ, zero, suc, _+_, _-_}
 use lib.ListN.{getD, set}
 use Rattle.refusals.specs.declared.ValueReply.{ValueReply}
 use Rattle.player.specs.declared.Mark.{Mark}
 use Rattle.player.specs.declared.Player.{Player}
-use Rattle.player.specs.PlainPlayer.{
-  PlainPlayer,
-  Call,
-  Open,
-  Forward,
-  Back,
-  SetMark,
-  Return,
-  Show,
-  callRefusal,
-  unlessRefused,
-  playerAfter,
-  answer,
-}
+use Rattle.player.specs.PlainPlayer.{PlainPlayer, Call, Open, Forward, Back, SetMark, Return, Show, callRefusal}
+use Rattle.player.specs.PlainPlayer.{unlessRefused, playerAfter, answer}
 
 -- A mark whose field `set` is 0 is unset, whatever its position; any other number stands for set.
 abbrev pub optional : ℕ → ℕ → Option ℕ

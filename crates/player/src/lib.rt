@@ -11,7 +11,6 @@ use refusals::ValueReply;
 use refusals::of_value;
 use runs::Run;
 use states::accepted;
-use states::arrived;
 use states::declined;
 use states::moved;
 
@@ -68,10 +67,10 @@ pub fn forwarded(player: Player, steps: u64) -> Outcome
     if let Check::Refused(refusal) = verdict {
         return declined(refusal, player);
     }
-    if u64::MAX - player.position < steps {
+    if player.run.count - player.position <= steps {
         return declined(Refusal::PositionOutOfRange, player);
     }
-    arrived(player, player.position + steps)
+    accepted(moved(player, player.position + steps))
 }
 
 // Moves back by this many positions, whatever the multiplier.
@@ -126,7 +125,10 @@ pub fn returned(player: Player, to: u64) -> Outcome
     if target.set == 0 {
         return declined(Refusal::BookmarkInvalid, player);
     }
-    arrived(player, target.position)
+    if player.run.count <= target.position {
+        return declined(Refusal::PositionOutOfRange, player);
+    }
+    accepted(moved(player, target.position))
 }
 
 // The number at the position held, in plain numbers.

@@ -1,7 +1,6 @@
 // What a call leaves.
 ghost use mathlib.Core.Path.{_≡_};
 ghost use Rattle.refusals.specs.Refusals.{numberOf};
-ghost use Rattle.player.specs.PlainPlayer.{offRun, unlessRefused};
 ghost use Rattle.player.specs.Player.{at};
 use crate::Outcome;
 use crate::Player;
@@ -11,8 +10,9 @@ use refusals::Refusal;
 pub fn declined(refusal: Refusal, before: Player) -> Outcome
     ensures { λ r. ⌜ (r .refusal ≡ numberOf refusal) × (r .player ≡ before) ⌝ }
 {
+    let number = refusals::number(refusal);
     Outcome {
-        refusal: refusals::number(refusal),
+        refusal: number,
         player: before,
     }
 }
@@ -37,16 +37,4 @@ pub fn moved(player: Player, position: u64) -> Player
         position,
         marks,
     }
-}
-
-// Moves to a position, if it is one of the run's.
-pub fn arrived(player: Player, position: u64) -> Outcome
-    ensures { λ r. ⌜ (r .refusal ≡ offRun (player .run) position)
-        × (r .player ≡ unlessRefused (offRun (player .run) position) player (at player position)) ⌝ }
-{
-    let there = moved(player, position);
-    if player.run.count <= position {
-        return declined(Refusal::PositionOutOfRange, player);
-    }
-    accepted(there)
 }

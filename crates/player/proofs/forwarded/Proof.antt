@@ -5,7 +5,10 @@ use native.Mathlib.Omega.{arith}
 use Rattle.refusals.specs.declared.Refusal.the-variants as refusal
 use Rattle.refusals.proofs.Replies.{number-accepted, number-refused, refused-else}
 use Rattle.player.specs.PlainPlayer.{Forward}
-use Rattle.player.proofs.Promises.{Held, held-passed, declined-promise, arrived-promise, forward-off, forward-to}
+use Rattle.player.proofs.Promises.{Held, held-passed, declined-promise, accepted-promise, forward-off}
+use Rattle.player.proofs.Promises.{forward-on}
+use Rattle.player.proofs.Promises.{Held, held-passed, declined-promise, accepted-promise, forward-off}
+use Rattle.player.proofs.Promises.{forward-on}
 use Rattle.player.proofs.forwarded.Statement.{statement}
 use Rattle.player.proofs.forwarded.Tie as tie
 
@@ -33,27 +36,34 @@ passed : (c : tie.After-enum-told) → Held (c .before .before .before .args .pl
 passed c = held-passed _ (number-accepted (c .before .before .held .ensures) (c .enum-told .given .1))
 
 sub-if1 : tie.Need-sub-if1
-sub-if1 c = search needs
+sub-if1 c = omega (arith, passed (c .before) .on)
 
 declined-requires-2 : tie.Need-declined-requires-2
 declined-requires-2 c κs = search needs
 
 returns-2 : tie.Need-returns-2
 returns-2 c =
-    let p = c .before .before .before in
+    let held = passed (c .before .before .before) in
     declined-promise (Forward _) _ refl refusal.PositionOutOfRange
-    (forward-off (passed p) (p .before .before .before .args .steps) (omega (arith, c .before .if1 .taken)))
+    (forward-off held _ (omega (arith, held .on, c .before .if1 .taken)))
     (c .declined2 .ensures)
 
-add-arrived : tie.Need-add-arrived
-add-arrived c = search needs
+add-moved : tie.Need-add-moved
+add-moved c = search needs
 
-arrived-requires : tie.Need-arrived-requires
-arrived-requires c κs = search needs
+moved-requires : tie.Need-moved-requires
+moved-requires c κs = search needs
+
+accepted-requires : tie.Need-accepted-requires
+accepted-requires c κs = search needs
 
 returns-3 : tie.Need-returns-3
 returns-3 c =
-    arrived-promise (Forward _) _ refl _ (forward-to (passed (c .before .before .before .before)) _) refl (c .arrived .ensures)
+    let held = passed (c .before .before .before .before .before) in
+    accepted-promise (Forward _) _ refl
+    (forward-on held _ (omega (arith, held .on, c .before .before .before .if1 .left)))
+    (c .before .moved .ensures)
+    (c .accepted .ensures)
 
 pub forwarded-spec : {M : Type 1} → statement M
 forwarded-spec =
@@ -67,6 +77,7 @@ forwarded-spec =
     sub-if1
     declined-requires-2
     returns-2
-    add-arrived
-    arrived-requires
+    add-moved
+    moved-requires
+    accepted-requires
     returns-3)

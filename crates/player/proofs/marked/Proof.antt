@@ -5,7 +5,8 @@ use native.Mathlib.Omega.{arith}
 use Rattle.refusals.specs.declared.Refusal.the-variants as refusal
 use Rattle.refusals.proofs.Replies.{number-accepted, number-refused, refused-else}
 use Rattle.player.specs.PlainPlayer.{SetMark}
-use Rattle.player.proofs.Promises.{Held, held-passed, declined-promise, accepted-promise, mark-above, mark-taken}
+use Rattle.player.proofs.Promises.{Held, held-passed, declined-promise, accepted-promise, mark-above}
+use Rattle.player.proofs.Promises.{mark-taken}
 use Rattle.player.proofs.marked.Statement.{statement}
 use Rattle.player.proofs.marked.Tie as tie
 

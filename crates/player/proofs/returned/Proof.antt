@@ -5,7 +5,8 @@ use native.Mathlib.Omega.{arith}
 use Rattle.refusals.specs.declared.Refusal.the-variants as refusal
 use Rattle.refusals.proofs.Replies.{number-accepted, number-refused, refused-else}
 use Rattle.player.specs.PlainPlayer.{Return}
-use Rattle.player.proofs.Promises.{Held, held-passed, declined-promise, arrived-promise, return-above, return-unset, return-to}
+use Rattle.player.proofs.Promises.{Held, held-passed, declined-promise, accepted-promise, return-above}
+use Rattle.player.proofs.Promises.{return-unset, return-off, return-on}
 use Rattle.player.proofs.returned.Statement.{statement}
 use Rattle.player.proofs.returned.Tie as tie
 
@@ -58,16 +59,31 @@ returns-3 c =
     (return-unset (passed (there .before)) _ (omega (arith, there .if1 .left)) refl (c .before .if2 .taken))
     (c .declined3 .ensures)
 
-arrived-requires : tie.Need-arrived-requires
-arrived-requires c κs = search needs
+declined-requires-4 : tie.Need-declined-requires-4
+declined-requires-4 c κs = search needs
 
 returns-4 : tie.Need-returns-4
 returns-4 c =
-    let there = c .before .before .before .before .before in
-    arrived-promise (Return _) _ refl _
-    (return-to (passed (there .before)) _ (omega (arith, there .if1 .left)) refl (c .before .if2 .left))
-    refl
-    (c .arrived .ensures)
+    let set = c .before .before .before .before in
+    let there = set .before .before .before .before in
+    declined-promise (Return _) _ refl refusal.PositionOutOfRange
+    (return-off (passed (there .before)) _ (omega (arith, there .if1 .left)) refl (set .if2 .left) (omega (arith, c .before .if3 .taken)))
+    (c .declined4 .ensures)
+
+moved-requires : tie.Need-moved-requires
+moved-requires c κs = search needs
+
+accepted-requires : tie.Need-accepted-requires
+accepted-requires c κs = search needs
+
+returns-5 : tie.Need-returns-5
+returns-5 c =
+    let set = c .before .before .before .before .before in
+    let there = set .before .before .before .before in
+    accepted-promise (Return _) _ refl
+    (return-on (passed (there .before)) _ (omega (arith, there .if1 .left)) refl (set .if2 .left) (omega (arith, c .before .before .if3 .left)))
+    (c .before .moved .ensures)
+    (c .accepted .ensures)
 
 pub returned-spec : {M : Type 1} → statement M
 returned-spec =
@@ -84,5 +100,8 @@ returned-spec =
     array-copy-out-target
     declined-requires-3
     returns-3
-    arrived-requires
-    returns-4)
+    declined-requires-4
+    returns-4
+    moved-requires
+    accepted-requires
+    returns-5)

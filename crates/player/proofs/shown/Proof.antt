@@ -1,6 +1,6 @@
 -- `player::shown` meets its contract: a record that passes the check has a position on its run, so no index is above 2^64 - 1.
 use borrow.Author.Needs.{needs}
-use mathlib.Core.Path.{refl, _∙_}
+use mathlib.Core.Path.{_∙_}
 use native.Mathlib.Omega.{arith}
 use Rattle.refusals.proofs.Replies.{number-accepted, number-refused, value-refused, value-given}
 use Rattle.runs.specs.Run.{shows}

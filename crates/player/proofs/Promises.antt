@@ -74,6 +74,10 @@ plain-after call player = by-refusal (callRefusal call (plainPlayer player)) ref
     by-refusal zero e = changes call player e
     by-refusal (suc n) e = refl
 
+-- so the promise of a call can be met on any record
+pub can-be-met : (call : Call) (player : Player) → PlayerPromise call player (fieldsAfter call player) (answer call (plainPlayer player))
+can-be-met call player = record { answers = refl; fields = refl; plain = plain-after call player }
+
 -- The ways out of a call that only tells whether it was accepted.
 told-reply : (n : ℕ) → told n ≡ valueReply n 0
 told-reply zero = refl

@@ -22,7 +22,7 @@ lastFields (call ∷ calls) player = lastFields calls (fieldsAfter call player)
 -- Calls made on one record, each as it promises: the record before them, the calls, their answers, the record after them.
 pub data Played : Player → List Call → List ValueReply → Player → Type 0 where
   nothing : {player : Player} → Played player [] [] player
-  _then_ : {before between after : Player} {call : Call} {reply : ValueReply} {calls : List Call} {replies : List ValueReply} →
+  next : {before between after : Player} {call : Call} {reply : ValueReply} {calls : List Call} {replies : List ValueReply} →
       PlayerPromise call before between reply → Played between calls replies after →
       Played before (call ∷ calls) (reply ∷ replies) after
 

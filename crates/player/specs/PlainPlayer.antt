@@ -44,7 +44,7 @@ abbrev pub returnRefusal : Run → Option ℕ → ℕ
 returnRefusal run none = 13
 returnRefusal run (some p) = offRun run p
 
--- The refusal that a call meets, 0 for none. Back from a position below the count, only 0 can be passed.
+-- The refusal that a call meets, 0 for none. A move back from a position of the run can leave it only below 0.
 abbrev pub callRefusal : Call → PlainPlayer → ℕ
 callRefusal (Open run) player = runRefusal run
 callRefusal (Forward k) player = orElse (heldRefusal player) (offRun (player .run) (player .position + k))

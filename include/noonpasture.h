@@ -142,7 +142,7 @@ np_lookup_reply np_lookup(const uint8_t *archive, size_t length, uint64_t value)
 np_summary_reply np_summary(const uint8_t *archive, size_t length);
 
 /* A player plays a run forward and back. Its record is the caller's, and each call but show alters it; a
- * refused call leaves every byte of it as it was.
+ * refused call writes nothing.
  * Hand in a record of your own, not null, zeroed (np_player player = {0};) or opened before: every call
  * reads the whole record, open too, and memory that was never written must not be read. Nothing else has to
  * be checked: any numbers may stand in it. All but show give the refusal, 0 for accepted.

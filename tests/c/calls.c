@@ -427,8 +427,8 @@ static void try_lengths(size_t more, uint64_t refusal, uint64_t line)
         fail("a long buffer is not filled");
 }
 
-/* On document 01's run. A constant stands in memory that cannot be written, so that a show that writes, be it the
- * same bytes, ends the program. */
+/* On document 01's run. A constant stands in memory that cannot be written, so that a show or a refused call that
+ * writes, be it the same bytes, ends the program. */
 static const np_player still = {{{10, 371, 995, 73}, 100, 8}, 2, {{1, 5}, {0, 6}, {7, 0}, {1, 8}}};
 
 static void try_still(void)
@@ -437,6 +437,20 @@ static void try_still(void)
 
     if (v.refusal != 0 || v.value != 821)
         fail("a record that cannot be written is shown otherwise");
+}
+
+static void try_refused_still(void)
+{
+    np_player *player = (np_player *)&still;
+    np_run refused = {{10, 371, 995, 73}, 100, 0};
+
+    if (np_player_open(player, refused) != NP_REFUSED_RUN_OUT_OF_RANGE
+        || np_player_forward(player, 6) != NP_REFUSED_POSITION_OUT_OF_RANGE
+        || np_player_back(player, 3) != NP_REFUSED_POSITION_OUT_OF_RANGE
+        || np_player_mark(player, 4) != NP_REFUSED_BOOKMARK_INVALID
+        || np_player_return(player, 1) != NP_REFUSED_BOOKMARK_INVALID
+        || np_player_return(player, 3) != NP_REFUSED_POSITION_OUT_OF_RANGE)
+        fail("a call on a record that cannot be written is refused otherwise");
 }
 
 /* A record filled with this byte is kept by an open that is refused, and written whole by one that is not. A record's
@@ -471,6 +485,7 @@ int main(void)
     try_lengths(1 << 8, NP_REFUSED_MALFORMED_LINE, 2);
     try_lengths(1 << 16, NP_REFUSED_ARCHIVE_TOO_LONG, 0);
     try_still();
+    try_refused_still();
     try_open(0xA5);
     try_open(0xFF);
     while ((letter = next_call()) != 0) {

@@ -164,7 +164,9 @@ pub extern "C" fn np_player_open(player: &mut Player, run: Run) -> u64
     ensures { λ r. ⌜ PlayerPromise (Open run) (now (player .entry)) (now (player .exit)) (told r) ⌝ }
 {
     let taken = opened(*player, run);
-    *player = taken.player;
+    if taken.refusal == 0 {
+        *player = taken.player;
+    }
     taken.refusal
 }
 
@@ -174,7 +176,9 @@ pub extern "C" fn np_player_forward(player: &mut Player, steps: u64) -> u64
     ensures { λ r. ⌜ PlayerPromise (Forward steps) (now (player .entry)) (now (player .exit)) (told r) ⌝ }
 {
     let taken = forwarded(*player, steps);
-    *player = taken.player;
+    if taken.refusal == 0 {
+        *player = taken.player;
+    }
     taken.refusal
 }
 
@@ -184,7 +188,9 @@ pub extern "C" fn np_player_back(player: &mut Player, steps: u64) -> u64
     ensures { λ r. ⌜ PlayerPromise (Back steps) (now (player .entry)) (now (player .exit)) (told r) ⌝ }
 {
     let taken = moved_back(*player, steps);
-    *player = taken.player;
+    if taken.refusal == 0 {
+        *player = taken.player;
+    }
     taken.refusal
 }
 
@@ -194,7 +200,9 @@ pub extern "C" fn np_player_mark(player: &mut Player, mark: u64) -> u64
     ensures { λ r. ⌜ PlayerPromise (SetMark mark) (now (player .entry)) (now (player .exit)) (told r) ⌝ }
 {
     let taken = marked(*player, mark);
-    *player = taken.player;
+    if taken.refusal == 0 {
+        *player = taken.player;
+    }
     taken.refusal
 }
 
@@ -204,7 +212,9 @@ pub extern "C" fn np_player_return(player: &mut Player, mark: u64) -> u64
     ensures { λ r. ⌜ PlayerPromise (Return mark) (now (player .entry)) (now (player .exit)) (told r) ⌝ }
 {
     let taken = returned(*player, mark);
-    *player = taken.player;
+    if taken.refusal == 0 {
+        *player = taken.player;
+    }
     taken.refusal
 }
 

@@ -1,12 +1,12 @@
 -- The ways out of a call. What an accepted call leaves of the record stands for what the plain player would be: each field is
 -- changed alike, and a mark that is returned to is set. A declined call leaves the record, so the plain player too.
 use mathlib.Core.Path.{_≡_, refl, sym, ap, subst, _∙_}
-use mathlib.Core.Bool.{Bool, true, false, cond}
+use mathlib.Core.Bool.{Bool, true, false, cond, not}
 use mathlib.Core.List.{List, [], _∷_, map}
 use mathlib.Core.Option.{Option, none, Option·getD}
 use Prim.Native.Nat.{ℕ, zero, suc, _+_, _≤_, _<_}
 use native.Mathlib.Omega.{arith}
-use lib.Dec.{leb}
+use lib.Dec.{T, eqb, leb}
 use borrow.Author.Tests.{leb-false, le-leb, lt-leb}
 use lib.ListN.{getD, set, List·getD-map}
 use Rattle.refusals.specs.declared.Refusal.{Refusal}
@@ -106,6 +106,22 @@ module _ (call : Call) (before : Player) (silent : numberShown call (plainPlayer
   accepted-promise z e w =
       promised (w .0 ∙ sym z)
       (w .1 ∙ e ∙ ap (λ (n : ℕ). unlessRefused n before (fieldsChanged call before)) (sym z))
+
+-- a refused one keeps the record
+reply-refusal : (n m v : ℕ) → told n ≡ valueReply m v → n ≡ m
+reply-refusal n zero v e = ap (λ (r : ValueReply). r .refusal) e
+reply-refusal n (suc m) v e = ap (λ (r : ValueReply). r .refusal) e
+
+pub refused-keeps : (call : Call) (before after : Player) (n : ℕ) → PlayerPromise call before after (told n) → T (not (eqb n 0)) → after ≡ before
+refused-keeps call before after n p s =
+    p .fields
+    ∙ ap (λ (m : ℕ). unlessRefused m before (fieldsChanged call before))
+    (sym (reply-refusal n (callRefusal call (plainPlayer before)) (numberShown call (plainPlayer before)) (p .answers)))
+    ∙ other n s
+  where
+    other : (m : ℕ) → T (not (eqb m 0)) → unlessRefused m before (fieldsChanged call before) ≡ before
+    other zero z = absurd z
+    other (suc m) z = refl
 
 -- What a record holds that passes the check which comes first.
 pub record Held (player : Player) : Type 0 where

@@ -6,6 +6,7 @@ use denote.Triple.Table.{entered, cited}
 use Rattle.player.specs.declared.Player.{Player}
 use Rattle.player.specs.PlainPlayer.{Back}
 use Rattle.player.specs.Player.{PlayerPromise, told}
+use Rattle.player.proofs.Promises.{refused-keeps}
 use Rattle.player.proofs.Lent.{number, Callee, lent-meets}
 use Rattle.player.proofs.moved_back.Symbol as callee
 use Rattle.player.proofs.moved_back.Met as thm
@@ -22,6 +23,7 @@ unfolding code.routine tablesOf
 np-player-back-spec 𝓤 H 𝓜 𝓖 𝓡 =
     entered 𝓤 H (tripleOf 𝓤 H (𝓖 .A) f.signature (f.spec 𝓤 H (𝓖 .A) (𝓜 .mem) (𝓡 .run)))
     (tables 𝓤 H 𝓜 𝓡 code.env .C) (tables 𝓤 H 𝓜 𝓡 code.env .Λ) name code.function (code.unfolded 𝓤 H 𝓜 𝓡)
-    (lent-meets callee.name number R 𝓤 H (𝓖 .A) (givenOf 𝓤 H 𝓜 𝓖) (tablesOf 𝓤 H 𝓜 (tables 𝓤 H 𝓜 𝓡 code.env))
+    (lent-meets callee.name number R 𝓤 H (𝓖 .A) (givenOf 𝓤 H 𝓜 𝓖) (λ h x n last. refused-keeps (Back x) h last n)
+    (tablesOf 𝓤 H 𝓜 (tables 𝓤 H 𝓜 𝓡 code.env))
     (cited 𝓤 H (Callee callee.name number R 𝓤 H (𝓖 .A)) 𝓜 𝓡 code.env callee.name callee.routine code.calls-player·moved-back
     (thm.met 𝓤 H 𝓜 𝓖 𝓡)))

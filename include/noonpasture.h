@@ -15,7 +15,7 @@
  * threads; a player's record is its caller's, and only one call at a time may be given it.
  *
  * The first field of a reply is the refusal: 0, or the lowest NP_REFUSED_.. that applies; for an
- * archive the order is said at their list. Beside a refusal every other field is 0 (but for the
+ * archive, and for a return to a mark, the order is said at their list. Beside a refusal every other field is 0 (but for the
  * line that it concerns, in a lookup or a summary) and nothing is written.
  */
 #ifndef NOONPASTURE_H
@@ -53,7 +53,7 @@ enum {
     NP_REFUSED_TOTAL_OVERFLOW = 10,       /* summary of an archive whose counts sum to more than 2^64 - 1 */
     NP_REFUSED_DUPLICATE_LINE = 11,       /* a line of an archive equals an earlier one, byte by byte; the line
                                              given is the later of the two */
-    NP_REFUSED_POSITION_OUT_OF_RANGE = 12,/* a player's position, held or resulting, is below 0 or not below the
+    NP_REFUSED_POSITION_OUT_OF_RANGE = 12, /* a player's position, held or resulting, is below 0 or not below the
                                              run's count; a mark's counts only when it is returned to */
     NP_REFUSED_BOOKMARK_INVALID = 13      /* a mark above 3, or a return to an unset one */
 };

@@ -1,5 +1,6 @@
 // The calls over the C boundary, as include/noonpasture.h declares them: each is its call, answered in plain numbers. A slice
-// passes as a pointer and a length.
+// passes as a pointer and a length, and a player as a pointer. What a call leaves of a player is stored only where it is accepted,
+// since a refused call is to write no byte.
 ghost use mathlib.Core.Path.{_≡_};
 ghost use Rattle.generator.specs.Recurrence.{element};
 ghost use Rattle.generator.specs.Check.{refusalOf};

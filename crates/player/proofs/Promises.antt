@@ -37,12 +37,12 @@ some-set : (run : Run) (n p held : ℕ) → returnRefusal run (optional n p) ≡
 some-set run zero p held e = absurd (omega arith)
 some-set run (suc n) p held e = refl
 
-returned-to : (player : Player) (m : ℕ) (b : Bool) → leb 4 m ≡ b →
+returned-to : (player : Player) (m : ℕ) (b : Bool) →
     returnRefusal (player .run) (cond b none (getD (map plainMark (player .marks)) m none)) ≡ 0 →
     getD (player .marks) m unset .position ≡
     Option·getD (cond b none (getD (map plainMark (player .marks)) m none)) (player .position)
-returned-to player m true h e = absurd (omega arith)
-returned-to player m false h e =
+returned-to player m true e = absurd (omega arith)
+returned-to player m false e =
     let mark = getD (player .marks) m unset in
     let is = List·getD-map plainMark (player .marks) m unset in
     sym
@@ -61,7 +61,7 @@ changes (SetMark m) player e =
     (map-set plainMark (player .marks) m (setAt (player .position)))
 changes (Return m) player e =
     ap (movedTo (plainPlayer player))
-    (returned-to player m (leb 4 m) refl (or-else-none (heldRefusal (plainPlayer player)) _ e .1))
+    (returned-to player m (leb 4 m) (or-else-none (heldRefusal (plainPlayer player)) _ e .1))
 changes Show player e = refl
 
 -- and any call: what stands in the record after it is what the plain player would be

@@ -15,8 +15,8 @@
  * threads; a player's record is its caller's, and only one call at a time may be given it.
  *
  * The first field of a reply is the refusal: 0, or the lowest NP_REFUSED_.. that applies; for an
- * archive, and for a return to a mark, the order is said at their list. Beside a refusal every other field is 0 (but for the
- * line that it concerns, in a lookup or a summary) and nothing is written.
+ * archive, for a return to a mark and for a fix the order is said at their list. Beside a refusal every other field
+ * is 0 (but for the line that it concerns, in a lookup or a summary; a float is +0.0) and nothing is written.
  */
 #ifndef NOONPASTURE_H
 #define NOONPASTURE_H
@@ -28,13 +28,13 @@
 extern "C" {
 #endif
 
-#define NP_VERSION "0.12.0"
+#define NP_VERSION "0.13.0"
 
 #define NP_LINE_MAX 107       /* no line of a run is longer, its byte 10 included */
 #define NP_ARCHIVE_MAX 65536  /* no accepted archive is longer */
 
 /* Why a call is refused. In an archive 1 comes first, then line by line 2, 3, 4, 5, 11, then 10. In a return to
- * a mark 12 of the position held comes first, then 13, then 12 of the mark's position. */
+ * a mark 12 of the position held comes first, then 13, then 12 of the mark's position. In a fix 14 comes before 12. */
 enum {
     NP_REFUSED_ARCHIVE_TOO_LONG = 1,      /* more than NP_ARCHIVE_MAX bytes */
     NP_REFUSED_MALFORMED_LINE = 2,        /* bytes that are not a valid line: a field that is no
@@ -54,8 +54,10 @@ enum {
     NP_REFUSED_DUPLICATE_LINE = 11,       /* a line of an archive equals an earlier one, byte by byte; the line
                                              given is the later of the two */
     NP_REFUSED_POSITION_OUT_OF_RANGE = 12, /* a player's position, held or resulting, is below 0 or not below the
-                                             run's count; a mark's counts only when it is returned to */
-    NP_REFUSED_BOOKMARK_INVALID = 13      /* a mark above 3, or a return to an unset one */
+                                             run's count; a mark's counts only when it is returned to. A fix whose
+                                             second position, 2 * fix + 1, is not below the count */
+    NP_REFUSED_BOOKMARK_INVALID = 13,     /* a mark above 3, or a return to an unset one */
+    NP_REFUSED_INEXACT = 14               /* a fix at width 0, whose modulus is no power of two */
 };
 
 typedef struct { uint64_t width, multiplier, increment, seed; } np_generator;
@@ -76,6 +78,9 @@ typedef struct { uint64_t refusal, line, line_count, total; } np_summary_reply;
 
 typedef struct { uint64_t set, position; } np_mark;                           /* set 0: unset; any other number: set */
 typedef struct { np_run run; uint64_t position; np_mark marks[4]; } np_player;
+
+typedef struct { double east, north; } np_fix;
+typedef struct { uint64_t refusal; np_fix fix; } np_fix_reply;                /* +0.0 twice beside a refusal */
 
 /* The element at an index, any from 0 to 2^64 - 1. Refusals 3, 4. */
 np_value        np_element(np_generator g, uint64_t index);
@@ -168,6 +173,12 @@ uint64_t        np_player_return(np_player *player, uint64_t mark);
 /* The number at the position held: element first + position. */
 np_value        np_player_show(const np_player *player);
 
+/* Fix number `fix` of a run: east from the element at position 2 * fix, north from that at 2 * fix + 1. At
+ * widths n to 53 a deviate is element / 2^n - 1/2; above, the lowest n - 53 bits are dropped, and what is left
+ * is divided by 2^53 in place of 2^n. Each is that fraction exactly, from -1/2 to below 1/2; a deviate of 0 is
+ * +0.0. Refusals 3, 4, 5, then 14, then 12; no sum wraps, whatever fix is. */
+np_fix_reply    np_fix_at(np_run run, uint64_t fix);
+
 /* A refusal's reason in words; of 0 and of numbers that are no refusal it says so. */
 static inline const char *np_refusal_text(uint64_t refusal)
 {
@@ -188,6 +199,7 @@ static inline const char *np_refusal_text(uint64_t refusal)
     case NP_REFUSED_DUPLICATE_LINE: return "the line equals an earlier one";
     case NP_REFUSED_POSITION_OUT_OF_RANGE: return "the position is not on the run";
     case NP_REFUSED_BOOKMARK_INVALID: return "the mark is above 3, or is returned to and unset";
+    case NP_REFUSED_INEXACT: return "a fix at width 0 would be inexact";
     default: return "no refusal has this number";
     }
 }

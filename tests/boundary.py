@@ -59,10 +59,13 @@ def c_refusals(numbers):
     return {f"NP_REFUSED_{snake(name).upper()}": number for name, number in numbers}
 
 
+C_TYPES = {"usize": "size_t", "f32": "float", "f64": "double"}
+
+
 def c_type(name):
     """Of a type of Rattle or Rust."""
-    if name == "usize":
-        return "size_t"
+    if name in C_TYPES:
+        return C_TYPES[name]
     if re.fullmatch(r"[ui](8|16|32|64)", name):
         return name.replace("i", "int").replace("u", "uint") + "_t"
     if name.startswith("*"):
@@ -195,6 +198,8 @@ def rust():
 CTYPES = {
     ctypes.c_uint64: "uint64_t",
     ctypes.c_int64: "int64_t",
+    ctypes.c_float: "float",
+    ctypes.c_double: "double",
     ctypes.c_char_p: "const uint8_t *",
     ctypes.POINTER(ctypes.c_uint8): "uint8_t *",
     ctypes.POINTER(ctypes.c_uint64): "uint64_t *",

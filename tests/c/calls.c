@@ -180,6 +180,49 @@ static played_reply play(void)
     return p;
 }
 
+static uint64_t bits_of(double x)
+{
+    uint64_t bits;
+
+    memcpy(&bits, &x, sizeof bits);
+    return bits;
+}
+
+/* A deviate of an element, by the floats of C; none of these steps rounds. */
+static double deviate_of(uint64_t width, uint64_t element)
+{
+    uint64_t places = width < 53 ? width : 53;
+
+    return (double)(element >> (width - places)) / (double)((uint64_t)1 << places) - 0.5;
+}
+
+/* It has to be that of the elements that np_remake writes, and from -1/2 to below 1/2. */
+static void try_deviate(double x, uint64_t element)
+{
+    if (!(-0.5 <= x && x < 0.5))
+        fail("a deviate that is out of its range");
+    if (bits_of(x) != bits_of(deviate_of(run.generator.width, element)))
+        fail("a deviate that is not its element's");
+}
+
+/* Beside a refusal both are +0.0. */
+static np_fix_reply fix_at(uint64_t fix)
+{
+    np_fix_reply f = np_fix_at(run, fix);
+    uint64_t shown[2] = {0, 0};
+
+    if (f.refusal != 0) {
+        if (bits_of(f.fix.east) != 0 || bits_of(f.fix.north) != 0)
+            fail("a deviate beside a refusal");
+        return f;
+    }
+    if (np_remake(run, 2 * fix, shown, 2).value != 2)
+        fail("a fix of less than two elements");
+    try_deviate(f.fix.east, shown[0]);
+    try_deviate(f.fix.north, shown[1]);
+    return f;
+}
+
 /* A reply. None has padding, so that replies are the same if their bytes are. */
 typedef union {
     np_value value;
@@ -193,13 +236,15 @@ typedef union {
     np_summary_reply summary;
     remade_reply remade;
     played_reply played;
+    np_fix_reply fix;
 } reply;
 
 typedef char no_padding[sizeof(np_value) == 16 && sizeof(np_orbit_reply) == 32 && sizeof(np_index_reply) == 24
                         && sizeof(np_places_reply) == 40 && sizeof(np_gap_reply) == 24 && sizeof(np_run_reply) == 56
                         && sizeof(np_part) == 16 && sizeof(np_lookup_reply) == 32 && sizeof(np_summary_reply) == 32
                         && sizeof(remade_reply) == 56 && sizeof(np_mark) == 16 && sizeof(np_player) == 120
-                        && sizeof(played_reply) == 136 && sizeof(kept_player) == 248 ? 1 : -1];
+                        && sizeof(played_reply) == 136 && sizeof(kept_player) == 248 && sizeof(np_fix) == 16
+                        && sizeof(np_fix_reply) == 24 ? 1 : -1];
 
 /* Makes the call in hand, and gives the size of its reply. */
 static size_t answer(int letter, reply *r)
@@ -216,6 +261,7 @@ static size_t answer(int letter, reply *r)
     case 'W': r->value = write_line(numbers[6]); return sizeof r->value;
     case 'M': r->remade = remake(numbers[6], numbers[7]); return sizeof r->remade;
     case 'K': r->played = play(); return sizeof r->played;
+    case 'D': r->fix = fix_at(numbers[6]); return sizeof r->fix;
     case 'R': r->run = np_read_line(bytes, length); return sizeof r->run;
     case 'L': r->part = np_line(bytes, length, numbers[0]); return sizeof r->part;
     case 'F': r->lookup = np_lookup(bytes, length, numbers[0]); return sizeof r->lookup;
@@ -310,6 +356,11 @@ static void print_played(played_reply p)
           m[3].position);
 }
 
+static void print_fix(np_fix_reply f)
+{
+    print(3, f.refusal, bits_of(f.fix.east), bits_of(f.fix.north));
+}
+
 static void print_reply(int letter, const reply *r)
 {
     switch (letter) {
@@ -319,6 +370,7 @@ static void print_reply(int letter, const reply *r)
     case 'G': print_gap(r->gap); break;
     case 'M': print_remade(r->remade); break;
     case 'K': print_played(r->played); break;
+    case 'D': print_fix(r->fix); break;
     case 'R': print_run(r->run); break;
     case 'L': print_part(r->part); break;
     case 'F': print_lookup(r->lookup); break;
@@ -474,6 +526,26 @@ static void try_open(int byte)
         fail("a run is opened otherwise over itself");
 }
 
+/* Elements 3, 0, 5, 2, 7, 4, 1, 6 of width 3: the fixes of this run as anyone would write them; 14 comes before 12. */
+static void try_fixes(void)
+{
+    static const np_fix fixes[4] = {{-0.125, -0.5}, {0.125, -0.25}, {0.375, 0.0}, {-0.375, 0.25}};
+    np_run r = {{3, 1, 5, 3}, 0, 8}, at_width_0 = {{0, 16807, 0, 1}, 0, 8};
+    uint64_t fix;
+
+    for (fix = 0; fix < 4; fix++) {
+        np_fix_reply f = np_fix_at(r, fix);
+
+        if (f.refusal != 0 || f.fix.east != fixes[fix].east || f.fix.north != fixes[fix].north)
+            fail("a fix is made otherwise");
+    }
+    if (np_fix_at(r, 4).refusal != NP_REFUSED_POSITION_OUT_OF_RANGE
+        || np_fix_at(r, (uint64_t)1 << 63).refusal != NP_REFUSED_POSITION_OUT_OF_RANGE
+        || np_fix_at(at_width_0, 0).refusal != NP_REFUSED_INEXACT
+        || np_fix_at(at_width_0, 4).refusal != NP_REFUSED_INEXACT)
+        fail("a fix is refused otherwise");
+}
+
 int main(void)
 {
     int letter;
@@ -488,6 +560,7 @@ int main(void)
     try_refused_still();
     try_open(0xA5);
     try_open(0xFF);
+    try_fixes();
     while ((letter = next_call()) != 0) {
         size_t size = answer_over(0xA5, letter, &r);
 

@@ -6,7 +6,7 @@ import ctypes
 import mmap
 import sys
 import tempfile
-from ctypes import POINTER, c_char_p, c_int64, c_size_t, c_uint8, c_uint64
+from ctypes import POINTER, c_char_p, c_double, c_int64, c_size_t, c_uint8, c_uint64
 
 
 def struct(*names, **more):
@@ -27,6 +27,8 @@ Part = struct("start", "length")
 SummaryReply = struct("refusal", "line", "line_count", "total")
 Mark = struct("set", "position")
 Player = struct(run=Run, position=c_uint64, marks=Mark * 4)
+Fix = struct(east=c_double, north=c_double)
+FixReply = struct("refusal", fix=Fix)
 
 # The result, and the parameters.
 CALLS = {
@@ -50,6 +52,7 @@ CALLS = {
     "np_player_mark": (c_uint64, POINTER(Player), c_uint64),
     "np_player_return": (c_uint64, POINTER(Player), c_uint64),
     "np_player_show": (Value, POINTER(Player)),
+    "np_fix_at": (FixReply, Run, c_uint64),
 }
 
 
@@ -126,6 +129,16 @@ def try_calls(library):
     assert played("np_player_back", 2) == (12, *shown, 1, *unset, 1, 2)
     assert played("np_player_return", 0) == (13, *shown, 1, *unset, 1, 2)
     assert played("np_player_return", 3) == (0, *shown, 2, *unset, 1, 2)
+
+    def fix(*arguments):
+        """As text, which tells -0.0 from 0.0."""
+        return str(call("np_fix_at", *arguments))
+
+    assert call("np_fix_at", Run(g, 100, 8), 1) == (0, 821 / 1024 - 0.5, 434 / 1024 - 0.5)
+    assert fix(run, 0) == "(0, -0.4375, 0.0)"
+    assert fix(Run(Generator(64, 0, 2047, 2**64 - 1), 0, 2), 0) == f"(0, {0.5 - 2**-53}, -0.5)"
+    assert fix(Run(g, 100, 8), 4) == fix(Run(g, 100, 8), 2**63) == "(12, 0.0, 0.0)"
+    assert fix(Run(prime, 0, 8), 0) == fix(Run(prime, 0, 8), 4) == "(14, 0.0, 0.0)"
 
     # Lengths of which 32 bits are those of a line, and of less: a file that takes no room but for its first bytes.
     with tempfile.TemporaryFile() as file:

@@ -19,6 +19,7 @@ The file stdin has one call a line, as decimal numbers separated by commas behin
     S  summary               count of bytes, the bytes                           refusal, line, line_count, total
     M  remake                the six numbers of a run, position, lent            refusal, count, 5 numbers
     K  player (keeps place)  a record, the six numbers of a run, 1 to 8 calls    refusal, value, the record
+    D  fix (two deviates)    the six numbers of a run, fix                       refusal, bits of east, bits of north
 
 The file stdout has the reply to each, the numbers on the right. No call has more than 250 numbers.
 G's backward is 1 if steps lead back, and else 0, so that all fields are plain numbers.
@@ -27,6 +28,7 @@ A record of K is fifteen numbers: the six of a run, the position, and of each of
 are made on that record in turn, each written as two numbers, code and argument: 0 open (0; it opens the run that stands
 before the calls), 1 forward (steps), 2 back (steps), 3 set a mark (mark), 4 return (mark), 5 show (0). The reply has
 refusal and value of the last call, the value 0 but for show, and the record after it.
+The bits of D are the 64 of each float, as one number.
 """
 
 import random
@@ -83,6 +85,7 @@ REPLY = {
     "S": ref.summary,
     "M": ref.remake,
     "K": player_reply,
+    "D": ref.fix_at,
 }
 
 
@@ -994,11 +997,11 @@ def plain_calls():
     yield "F", (5, b"4,5,3,1,0,16\n")
 
 
-def numbers_beyond():
+def each_beyond(calls):
     """Each number of these calls with each of BEYOND added, if that makes another reply than the lower bits would; runs
     also as lines. The last argument of some calls is no number, or how much is lent, for which there is little room."""
     asked, told = set(), set()
-    for code, args in plain_calls():
+    for code, args in calls:
         for place, more in product(range(len(args) - (code in "LFWM")), BEYOND):
             larger, lower = ((*args[:place], n, *args[place + 1 :]) for n in (args[place] + more, args[place] % more))
             asked.add((code, place, more))
@@ -1008,6 +1011,10 @@ def numbers_beyond():
             if code == "V":
                 yield from (("R", (ref.line_of(larger),)), ("S", (ref.line_of(larger),)))
     assert told == asked
+
+
+def numbers_beyond():
+    yield from each_beyond(plain_calls())
     yield "W", (4, 5, 3, 1, 0, 16, 256)
 
 
@@ -1223,11 +1230,124 @@ def player_calls():
         yield from part()
 
 
+# For the fixes.
+
+
+def worked_fixes():
+    """Document 01's run and one behind its end; every number of the narrowest widths, first as east, then as north."""
+    for fix in range(5):
+        yield *SHOWN_RUN, fix
+    for width, first in product(range(1, 5), (0, 1)):
+        for fix in range(2 ** (width - 1)):
+            yield width, 1, 1, 0, first, 2**width, fix
+
+
+def numbers_of_width(width):
+    """About the ends and the middle of the width, and any. Above 53 also with nothing but the bits that are dropped,
+    with all of these beside others, and the next numbers without them."""
+    size, half, unit = 2**width, 2 ** (width - 1), 2 ** max(width - 53, 0)
+    numbers = 0, 1, half - 1, half, size - 1, below(size)
+    if width > 53:
+        numbers += unit - 1, unit, half - unit, half + unit - 1, half + unit, size - unit, below(size) | unit - 1
+    return list(dict.fromkeys(numbers))
+
+
+def run_showing(width, east, north, first, count, fix):
+    """A run of any odd multiplier whose fix is made of these numbers: so the increment, and back to the seed."""
+    size, multiplier = 2**width, below(2**width) | 1
+    increment, inverse = (north - multiplier * east) % size, pow(multiplier, -1, size)
+    seed = ref.element(width, inverse, -increment * inverse % size, east, first + 2 * fix)[1]
+    return width, multiplier, increment, seed, first, count
+
+
+def fixes_of_numbers():
+    """Each of these numbers once as east and once as north, at the start of a sequence or further on, and with the last
+    fix of a run or an earlier one."""
+    for width in range(1, 65):
+        numbers = numbers_of_width(width)
+        for east, north in zip(numbers, (*numbers[1:], numbers[0])):
+            first, fix = pick((0, 1, below(100), below(2**62))), pick((0, 1, below(100), below(2**62)))
+            count = 2 * fix + 2 + pick((0, 0, 1, below(100)))
+            yield *run_showing(width, east, north, first, count, fix), fix
+
+
+def fixes_of_powers():
+    """For every i, 2^i, 2^(n - 1) + 2^i and 2^(n - 1) - 2^i, whose deviates have every exponent and both signs. A step
+    doubles what is added or taken off."""
+    for width in (53, 54, 64):
+        half = 2 ** (width - 1)
+        for increment, seed in ((0, 1), (half, half + 1), (half, half - 1)):
+            for fix in range((width + 1) // 2):
+                yield width, 2, increment, seed, 0, width + 1, fix
+
+
+def ends(count):
+    """At the start, about the last fix of a run with this count, and about 2^63: from there on 2 fix + 1 is above 2^64,
+    and modulo that a position of the run again."""
+    last = count // 2
+    tried = 0, last - 2, last - 1, last, last + 1, 2**63 - 2, 2**63 - 1, 2**63, 2**63 + 1, 2**63 + last - 1, TOP
+    return sorted({fix for fix in tried if 0 <= fix <= TOP})
+
+
+def fixes_about_the_end():
+    """Runs with an even and an odd count, from the start of a sequence on and at its far end."""
+    for count in (1, 2, 3, 8, 9, 2**32, 2**32 + 1, 2**63 - 1, 2**63, TOP - 1, TOP):
+        for first in sorted({0, TOP - count}):
+            for fix in ends(count):
+                yield *pick((*WIDE, *PERIODS)), first, count, fix
+
+
+def refused_fixes():
+    """For the width, an operand, the run, width 0 or the position: for one of them, two, or more; and for none."""
+    for width in REFUSED_WIDTHS:
+        yield width, 0, 0, 1, 0, 8, 0
+        yield width, TOP, TOP, TOP, TOP, 0, TOP
+    shown, on_prime = SHOWN_RUN[:4], prime(1)
+    wrong = [(*shown[:at], 1024, *shown[at + 1 :]) for at in (1, 2, 3)]
+    wide = [(65, *g[1:]) for g in (shown, wrong[0], on_prime)]
+    for g in (shown, *wide, *wrong, on_prime, prime(PRIME - 1), prime(0), prime(PRIME)):
+        for first, count in ((100, 8), (100, 0), (TOP - 7, 8), (TOP, TOP), (TOP, 1)):
+            for fix in (3, 4):
+                yield *g, first, count, fix
+    for operands in PRIME_OPERANDS:
+        yield 0, *operands, 0, 8, pick((0, 4))
+    for count, fix in ((1, 0), (2, 0), (TOP, 2**63), (TOP, 2**63 - 2), (TOP, TOP)):
+        yield *on_prime, 0, count, fix
+
+
+def a_fix(count):
+    """Mostly on the run, if that has two positions."""
+    last = max(count // 2 - 1, 0)
+    return pick((0, last, *(below(last + 1) for _ in range(4)), last + 1, below(2**64)))
+
+
+def random_fixes():
+    """Of every width and kind of multiplier; of width 0. Seldom on a run of one position, which has no fix."""
+    for g in (*generators(), *WIDE, *prime_generators(4)):
+        run = a_run(g)
+        if run[5] > 1 or below(8) == 0:
+            yield *run, a_fix(run[5])
+
+
+def plain_fixes():
+    """At a narrow width, where larger numbers are refused; at width 64, where they are not; behind the end of a run."""
+    for g, count, fix in (((4, 5, 3, 1), 16, 1), (WIDE[0], 2**62, 1), ((4, 5, 3, 1), 16, 8)):
+        yield "D", (*g, 0, count, fix)
+
+
+def fix_calls():
+    about = fixes_of_numbers, fixes_of_powers, fixes_about_the_end
+    for part in (worked_fixes, *about, refused_fixes, random_fixes):
+        for numbers in part():
+            yield "D", numbers
+    yield from each_beyond(plain_fixes())
+
+
 def all_calls():
     refused = refused_generators, refused_runs, one_way, refused_archives
     accepted = long_sequences, wide_calls, printed_tables, valid_calls, reading_calls, archive_calls, remaking_calls
     later = gap_calls, places_calls, variety_calls, prime_calls, summary_calls, twin_calls, numbers_beyond, player_calls
-    parts = bounds, *refused, *accepted, *later
+    parts = bounds, *refused, *accepted, *later, fix_calls
     return dict.fromkeys((code, tuple(args)) for part in parts for code, args in part())
 
 

@@ -147,6 +147,14 @@ pub struct Summary {
     pub total: u64,
 }
 
+/// A deviate to the east and one to the north, each from −1/2 to below 1/2.
+#[repr(C)]
+#[derive(Clone, Copy, Debug, Default, PartialEq)]
+pub struct Fix {
+    pub east: f64,
+    pub north: f64,
+}
+
 /// The value of a reply, or its refusal.
 #[inline]
 fn value(reply: raw::Value) -> Result<u64, Refusal> {
@@ -621,6 +629,39 @@ impl Player {
     pub fn marks(&self) -> [Option<u64>; 4] {
         self.record.marks.map(|mark| (mark.set != 0).then_some(mark.position))
     }
+}
+
+/// The fix with this number: east from the number at position 2 × `fix` of the run, north from that at the
+/// position behind it.
+///
+/// A number x of width n, up to 53, gives x / 2^n − 1/2; above, its lowest n − 53 bits are dropped, and what is
+/// left is divided by 2^53 in place of 2^n. Each is that fraction exactly, and 0 is +0.0. Width 0, whose modulus
+/// is no power of two, is refused before a position that is not on the run.
+///
+/// ```
+/// use noonpasture::{fix_at, Fix, Refusal, Run};
+///
+/// // 49, 742, 821, 434, 217, 606, 541, 1002.
+/// let run = Run::from([10, 371, 995, 73, 100, 8]);
+/// assert_eq!(fix_at(run, 0), Ok(Fix { east: -0.4521484375, north: 0.224609375 }));
+/// assert_eq!(fix_at(run, 3), Ok(Fix { east: 541.0 / 1024.0 - 0.5, north: 1002.0 / 1024.0 - 0.5 }));
+/// assert_eq!(fix_at(run, 4), Err(Refusal::PositionOutOfRange));
+/// assert_eq!(fix_at(Run { count: 7, ..run }, 3), Err(Refusal::PositionOutOfRange));
+/// assert_eq!(fix_at(run, u64::MAX), Err(Refusal::PositionOutOfRange));
+///
+/// // The largest number of 64 bits, then 0.
+/// let wide = Run::from([64, 1, 1, u64::MAX, 0, 2]);
+/// assert_eq!(fix_at(wide, 0), Ok(Fix { east: 0.5 - 1.0 / 9_007_199_254_740_992.0, north: -0.5 }));
+///
+/// let prime = Run::from([0, 16807, 0, 1, 0, 8]);
+/// assert_eq!(fix_at(prime, 0), Err(Refusal::Inexact));
+/// assert_eq!(fix_at(prime, 4), Err(Refusal::Inexact));
+/// assert_eq!(fix_at(Run { count: 0, ..prime }, 0), Err(Refusal::RunOutOfRange));
+/// ```
+#[inline]
+pub fn fix_at(run: Run, fix: u64) -> Result<Fix, Refusal> {
+    let raw::FixReply { refusal, fix } = raw::fix_at(run, fix);
+    Refusal::of(refusal).map(|()| fix)
 }
 
 /// The examples of the repository's README.

@@ -1,7 +1,7 @@
 //! The calls with the replies of `include/noonpasture.h` as they are: a refusal's number (0 for
 //! none) and zeros beside it. The functions of the crate's root read them.
 
-use crate::{Generator, Run};
+use crate::{Fix, Generator, Run};
 
 #[repr(C)]
 #[derive(Clone, Copy, Debug, Default, PartialEq, Eq)]
@@ -101,6 +101,14 @@ pub struct Player {
     pub marks: [Mark; 4],
 }
 
+/// `fix` is +0.0 twice beside a refusal.
+#[repr(C)]
+#[derive(Clone, Copy, Debug, Default, PartialEq)]
+pub struct FixReply {
+    pub refusal: u64,
+    pub fix: Fix,
+}
+
 mod foreign {
     use super::*;
 
@@ -125,6 +133,7 @@ mod foreign {
         pub fn np_player_mark(player: *mut Player, mark: u64) -> u64;
         pub fn np_player_return(player: *mut Player, mark: u64) -> u64;
         pub fn np_player_show(player: *const Player) -> Value;
+        pub fn np_fix_at(run: Run, fix: u64) -> FixReply;
     }
 }
 
@@ -229,4 +238,9 @@ pub fn player_return(player: &mut Player, mark: u64) -> u64 {
 #[inline]
 pub fn player_show(player: &Player) -> Value {
     unsafe { foreign::np_player_show(player) }
+}
+
+#[inline]
+pub fn fix_at(run: Run, fix: u64) -> FixReply {
+    unsafe { foreign::np_fix_at(run, fix) }
 }

@@ -6,7 +6,7 @@ use std::fmt::{self, Display, Formatter};
 /// Why a call is refused: the lowest that applies; of an archive `ArchiveTooLong`, else the reason of
 /// its first refused line, `DuplicateLine` the last of these, else `TotalOverflow`; of a return to a mark
 /// `PositionOutOfRange` for the position held, else `BookmarkInvalid`, else `PositionOutOfRange` for the
-/// mark's. The numbers are those of `include/noonpasture.h`.
+/// mark's; of a fix `Inexact` before `PositionOutOfRange`. The numbers are those of `include/noonpasture.h`.
 #[derive(Clone, Copy, Debug, PartialEq, Eq, Hash)]
 #[non_exhaustive]
 pub enum Refusal {
@@ -23,11 +23,12 @@ pub enum Refusal {
     DuplicateLine,
     PositionOutOfRange,
     BookmarkInvalid,
+    Inexact,
 }
 
 impl Refusal {
     /// All of them, in the order of their numbers, which begin with 1.
-    pub const ALL: [Refusal; 13] = [
+    pub const ALL: [Refusal; 14] = [
         Refusal::ArchiveTooLong,
         Refusal::MalformedLine,
         Refusal::WidthOutOfRange,
@@ -41,6 +42,7 @@ impl Refusal {
         Refusal::DuplicateLine,
         Refusal::PositionOutOfRange,
         Refusal::BookmarkInvalid,
+        Refusal::Inexact,
     ];
 
     /// ```
@@ -80,6 +82,7 @@ impl Display for Refusal {
             Refusal::DuplicateLine => "the line equals an earlier one",
             Refusal::PositionOutOfRange => "the position is not on the run",
             Refusal::BookmarkInvalid => "the mark is above 3, or is returned to and unset",
+            Refusal::Inexact => "a fix at width 0 would be inexact",
         })
     }
 }

@@ -7,10 +7,10 @@ use std::path::Path;
 use std::process::Command;
 
 use noonpasture::raw::{
-    GapReply, IndexReply, LookupReply, Mark, OrbitReply, Part, PlacesReply, Player, RunReply, SummaryReply,
-    Value,
+    FixReply, GapReply, IndexReply, LookupReply, Mark, OrbitReply, Part, PlacesReply, Player, RunReply,
+    SummaryReply, Value,
 };
-use noonpasture::{Generator, Refusal, Run, ARCHIVE_MAX, LINE_MAX, VERSION};
+use noonpasture::{Fix, Generator, Refusal, Run, ARCHIVE_MAX, LINE_MAX, VERSION};
 
 /// A text of the C program, the printf format of what it gives, and what that has to be.
 struct Fact {
@@ -68,6 +68,10 @@ fn facts() -> Vec<Fact> {
         let place = offset_of!(Player, marks) + mark * size_of::<Mark>();
         facts.push(number(format!("offsetof(np_player, marks[{mark}])"), place));
     }
+    layout!(facts, "np_fix", Fix { east, north });
+    // Integers would lose the halves.
+    facts.push(number("((np_fix){0.5, 0.5}).east + ((np_fix){0.5, 0.5}).north".into(), 1));
+    layout!(facts, "np_fix_reply", FixReply { refusal, fix });
     for refusal in Refusal::ALL {
         let name = constant(refusal);
         facts.push(number(name.clone(), refusal.number() as usize));

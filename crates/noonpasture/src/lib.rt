@@ -17,10 +17,13 @@ ghost use Rattle.variety.specs.Variety.{VarietyPromise};
 ghost use Rattle.remake.specs.Remake.{RemakePromise};
 ghost use Rattle.player.specs.PlainPlayer.{Open, Forward, Back, SetMark, Return, Show};
 ghost use Rattle.player.specs.Player.{PlayerPromise, told};
+ghost use Rattle.fixes.specs.Fix.{FixPromise};
 ghost use Rattle.archive_line.specs.Line.{PartPromise};
 ghost use Rattle.lookup.specs.Lookup.{LookupPromise};
 ghost use Rattle.summary.specs.Summary.{SummaryPromise};
 use archive_line::Part;
+use fixes::FixReply;
+use fixes::plain::of_fix;
 use gaps::GapReply;
 use gaps::plain::of_gap;
 use generator::Generator;
@@ -225,4 +228,12 @@ pub extern "C" fn np_player_show(player: &Player) -> ValueReply
     ensures { λ r. ⌜ PlayerPromise Show (now (player .entry)) (now (player .entry)) r ⌝ }
 {
     shown(*player)
+}
+
+// The fix with this number: east of position 2 × fix, north of the position behind it.
+#[no_mangle]
+pub extern "C" fn np_fix_at(run: Run, fix: u64) -> FixReply
+    ensures { λ r. ⌜ FixPromise run fix r ⌝ }
+{
+    of_fix(fixes::fix_at(run, fix))
 }

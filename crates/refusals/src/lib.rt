@@ -18,6 +18,7 @@ pub enum Refusal {
     DuplicateLine,
     PositionOutOfRange,
     BookmarkInvalid,
+    Inexact,
 }
 
 pub enum Check {
@@ -55,6 +56,7 @@ pub fn number(refusal: Refusal) -> u64
         Refusal::DuplicateLine => 11,
         Refusal::PositionOutOfRange => 12,
         Refusal::BookmarkInvalid => 13,
+        Refusal::Inexact => 14,
     }
 }
 

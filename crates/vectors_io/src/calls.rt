@@ -8,6 +8,7 @@ use crate::numbers::Bytes;
 use crate::numbers::read_bytes;
 use crate::players;
 use crate::replies::Reply;
+use fixes::plain::of_fix;
 use gaps::plain::of_gap;
 use generator::Generator;
 use lines::plain::of_run;
@@ -23,6 +24,7 @@ pub fn reply(letter: u8, n: &[u64]) -> Reply {
     match letter {
         b'B' => index_places(n),
         b'C' => customary_multiplier(n),
+        b'D' => fix_at(n),
         b'E' => element(n),
         b'F' => archives::reply(letter, n),
         b'G' => gap(n),
@@ -52,6 +54,16 @@ fn element(n: &[u64]) -> Reply {
         return Reply::Unreadable;
     }
     of_one(generator::element(generator_of(n), n[4]))
+}
+
+// The second and the third number are the bits of the floats.
+fn fix_at(n: &[u64]) -> Reply {
+    if n.len() != 7 {
+        return Reply::Unreadable;
+    }
+    let r = of_fix(fixes::fix_at(run_of(n), n[6]));
+    let fix = r.fix;
+    Reply::Three(r.refusal, f64::to_bits(fix.east), f64::to_bits(fix.north))
 }
 
 // The third number is 1 where the steps go back, the fourth how many there are.

@@ -1,10 +1,12 @@
 //! The arguments and replies of the calls, and what the implementations beside the library share.
 
+use std::fmt::{self, Debug, Formatter};
+
 pub use noonpasture::raw::{
-    GapReply, IndexReply, LookupReply, Mark, OrbitReply, Part, PlacesReply, Player, RunReply, SummaryReply,
-    Value,
+    FixReply, GapReply, IndexReply, LookupReply, Mark, OrbitReply, Part, PlacesReply, Player, RunReply,
+    SummaryReply, Value,
 };
-pub use noonpasture::{Generator, Run};
+pub use noonpasture::{Fix, Generator, Run};
 
 pub const ARCHIVE_TOO_LONG: u64 = 1;
 pub const MALFORMED_LINE: u64 = 2;
@@ -19,6 +21,7 @@ pub const TOTAL_OVERFLOW: u64 = 10;
 pub const DUPLICATE_LINE: u64 = 11;
 pub const POSITION_OUT_OF_RANGE: u64 = 12;
 pub const BOOKMARK_INVALID: u64 = 13;
+pub const INEXACT: u64 = 14;
 
 pub const ARCHIVE_LIMIT: usize = 65_536;
 
@@ -31,6 +34,28 @@ pub enum PlayerCall {
     Mark(u64),
     Return(u64),
     Show,
+}
+
+/// The reply to a fix with the bits of its floats, by which it is compared: +0.0 and −0.0 are equal as floats.
+#[derive(Clone, Copy, Default, PartialEq, Eq)]
+pub struct FixBits {
+    pub refusal: u64,
+    pub east: u64,
+    pub north: u64,
+}
+
+impl From<FixReply> for FixBits {
+    fn from(FixReply { refusal, fix: Fix { east, north } }: FixReply) -> FixBits {
+        FixBits { refusal, east: east.to_bits(), north: north.to_bits() }
+    }
+}
+
+impl Debug for FixBits {
+    fn fmt(&self, f: &mut Formatter) -> fmt::Result {
+        let FixBits { refusal, east, north } = *self;
+        let [e, n] = [east, north].map(f64::from_bits);
+        write!(f, "refusal {refusal}, east {e:?} ({east:016x}), north {n:?} ({north:016x})")
+    }
 }
 
 /// The period of a reply as a number.

@@ -2,6 +2,7 @@
 
 pub mod archives;
 pub mod calls;
+pub mod fixes;
 pub mod formula;
 pub mod model;
 pub mod peers;

@@ -1,6 +1,6 @@
 //! Every call of the header once more, independently: sequences by stepping where that is short and by
 //! formula elsewhere, at width 0 by powers and baby steps, lines by splitting the bytes, equal lines by a set
-//! of the earlier ones; the player in `player`.
+//! of the earlier ones; the player in `player`, the fixes in `fix`.
 
 use std::collections::HashSet;
 
@@ -8,6 +8,7 @@ use crate::calls::*;
 use crate::trail::{low, step, Trail};
 use crate::{formula, prime};
 
+pub mod fix;
 pub mod player;
 
 /// Up to this width odd multipliers are stepped through; even ones always are.
@@ -504,6 +505,10 @@ mod tests {
                 vec![r.refusal, r.line, r.line_count, r.total]
             }
             "K" => reply_on_player(n),
+            "D" => {
+                let r = fix::fix_at(run(n), n[6]);
+                vec![r.refusal, r.east, r.north]
+            }
             _ => reply_on_generator(code, n),
         }
     }

@@ -1,13 +1,16 @@
 //! The library's own methods in plain Rust, to measure it against: jumps from the lowest bit of the
 //! index up, the search up the bit places, lines in one pass, equal ones by chains of those whose hash
-//! falls into one slot; at width 0 what `prime` has, and of the player what `player` has.
+//! falls into one slot; at width 0 what `prime` has, of the player what `player` has, and of the fixes what `fix`
+//! has.
 
 use crate::calls::*;
 use crate::prime::PERIOD;
 
+mod fix;
 mod player;
 mod prime;
 
+pub use fix::*;
 pub use player::*;
 
 /// The map of some number of steps: times `factor`, plus `summand`, modulo 2^64.

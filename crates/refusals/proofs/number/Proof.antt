@@ -44,6 +44,9 @@ enum-told-12 c = search needs
 enum-told-13 : tie.Need-enum-told-13
 enum-told-13 c = search needs
 
+enum-told-14 : tie.Need-enum-told-14
+enum-told-14 c = search needs
+
 returns : tie.Need-returns
 returns c = sym (ap numberOf (c .enum-told .given .1))
 
@@ -83,6 +86,9 @@ returns-12 c = sym (ap numberOf (c .enum-told12 .given .1))
 returns-13 : tie.Need-returns-13
 returns-13 c = sym (ap numberOf (c .enum-told13 .given .1))
 
+returns-14 : tie.Need-returns-14
+returns-14 c = sym (ap numberOf (c .enum-told14 .given .1))
+
 pub number-spec : {M : Type 1} → statement M
 number-spec =
     tie.close
@@ -100,6 +106,7 @@ number-spec =
     enum-told-11
     enum-told-12
     enum-told-13
+    enum-told-14
     returns
     returns-2
     returns-3
@@ -112,4 +119,5 @@ number-spec =
     returns-10
     returns-11
     returns-12
-    returns-13)
+    returns-13
+    returns-14)

@@ -1,13 +1,13 @@
 //! Times the proved library against plain Rust of the same method and against the peers' way, its gap and
-//! index_places against its index, the player's show against its element, and long moves of the player
-//! against short ones, in one run, as markdown tables:
+//! index_places against its index, the player's show and its fixes against its element, and long moves of the
+//! player against short ones, in one run, as markdown tables:
 //!
 //!     cargo run --release --bin bench [-- [--plain] [ROWS]]
 //!
 //! Both sides get the same inputs in turn, round by round; a ratio is the median over the rounds.
 //! Buffers are not cleared first. With `--plain` there are no headings, tabs between the fields and
 //! more digits; with ROWS only the rows that begin with this text, as `lookup` or `index, distance`.
-//! Without the features `index-places`, `summary` and `player` the rows of these calls are left out,
+//! Without the features `index-places`, `summary`, `player` and `fix` the rows of these calls are left out,
 //! without `prime-modulus` those of width 0.
 
 use std::collections::HashSet;
@@ -662,6 +662,59 @@ mod player {
     }
 }
 
+/// The rows of the fixes. They have random numbers of their own as well.
+#[cfg(feature = "fix")]
+mod fixes {
+    use super::*;
+
+    /// A reply's fields, each read as a caller reads it. A copy of the whole reply would be timed in their place: it waits
+    /// until all of them are written.
+    fn read(FixReply { refusal, fix: Fix { east, north } }: FixReply) -> (u64, f64, f64) {
+        (black_box(refusal), black_box(east), black_box(north))
+    }
+
+    fn fix_at(inputs: &[(Run, u64)]) -> Timing {
+        measured(
+            inputs,
+            |(run, fix)| read(library::fix_at(run, fix)),
+            |(run, fix)| read(same_method::fix_at(run, fix)),
+        )
+    }
+
+    /// The library's two calls, the element being that of east; that both are accepted is compared.
+    fn fix_and_element(inputs: &[(Run, u64)]) -> Timing {
+        measured(
+            inputs,
+            |(run, fix)| read(library::fix_at(run, fix)).0,
+            |(run, fix)| {
+                let Value { refusal, value } = library::element(run.generator, run.first + 2 * fix);
+                black_box(value);
+                black_box(refusal)
+            },
+        )
+    }
+
+    /// Any fix of a run whose east is at an index of so many bits.
+    fn at_index(r: &mut Random, width: u64, bits: u64) -> (Run, u64) {
+        let index = (1 << (bits - 1) | r.bits(bits)).min(u64::MAX - 2);
+        let fix = r.below(index / 2 + 1);
+        let first = index - 2 * fix;
+        (Run { generator: full_period_generator(r, width), first, count: u64::MAX - first }, fix)
+    }
+
+    pub fn rows(out: &Output) {
+        let r = &mut Random::new(SEED + 7);
+        let sizes = [(64, 8), (64, 16), (64, 32), (64, 64), (32, 8), (32, 16), (32, 32), (32, 64)];
+        let inputs = sizes.map(|(width, bits)| {
+            (format!("width {width}, index of {bits} bits"), several(|_| at_index(r, width, bits)))
+        });
+        out.heading("fix", "Rust");
+        inputs.iter().for_each(|(input, calls)| out.row("fix_at", input, || fix_at(calls)));
+        out.heading("fix beside element", "element");
+        inputs.iter().for_each(|(input, calls)| out.row("fix_at, element", input, || fix_and_element(calls)));
+    }
+}
+
 fn main() {
     let (flags, words): (Vec<_>, Vec<_>) = env::args().skip(1).partition(|word| word == "--plain");
     let out = Output { plain: !flags.is_empty(), rows: words.join(" ") };
@@ -680,4 +733,6 @@ fn main() {
     summaries::rows(&out);
     #[cfg(feature = "player")]
     player::rows(&out);
+    #[cfg(feature = "fix")]
+    fixes::rows(&out);
 }

@@ -3,8 +3,9 @@
 //! gap, at width 0 on every digit of the index by itself, for the summary on chosen sums, cut archives and
 //! every changed byte, for equal lines on twins at every place, almost equal lines and lines of one slot, on
 //! numbers whose lower bits are accepted ones, for the player on all short lists of chosen calls and on random
-//! lists, and on random calls, accepted and refused. Ends with status 1 at the first difference, and if an outcome
-//! of the player's calls is not met often.
+//! lists, for the fixes bit by bit on all short runs of widths 1 to 3, on chosen numbers at every width and about the
+//! ends of runs, and on random calls, accepted and refused. Ends with status 1 at the first difference, and if an
+//! outcome of the player's calls or of the fixes is not met often.
 //!
 //!     cargo run --release --bin differential
 
@@ -17,7 +18,7 @@ use noonpasture_differential::archives::{lines_with, with_line, ABOUT_TWINS, BAD
 use noonpasture_differential::calls::*;
 use noonpasture_differential::random::Random;
 use noonpasture_differential::samples::MakeRun;
-use noonpasture_differential::{library, model, players, prime, samples};
+use noonpasture_differential::{fixes, library, model, players, prime, samples};
 
 /// The work is halved between two threads, each with random numbers of its own.
 const SHARES: u64 = 2;
@@ -26,6 +27,7 @@ const RANDOM_CALLS: u64 = 1_000_000;
 const PRIME_CALLS: u64 = 100_000;
 /// Of all kinds together: about a million openings, which are the fewest.
 const PLAYER_CALLS: u64 = 12_000_000;
+const FIX_CALLS: u64 = 2_000_000;
 const SEED: u64 = 20_260_101;
 
 #[derive(Clone, Copy)]
@@ -51,9 +53,10 @@ enum Kind {
     PlayerMark,
     PlayerReturn,
     PlayerShow,
+    FixAt,
 }
 
-const KINDS: [&str; 21] = [
+const KINDS: [&str; 22] = [
     "element",
     "orbit",
     "index",
@@ -75,14 +78,15 @@ const KINDS: [&str; 21] = [
     "player_mark",
     "player_return",
     "player_show",
+    "fix_at",
 ];
 
 /// What replies are counted by: an answer, a refusal by its number, or nothing, which is never,
 /// none, the empty part or no number remade.
-const OUTCOMES: [&str; 15] =
-    ["answer", "1", "2", "3", "4", "5", "6", "7", "8", "9", "10", "11", "12", "13", "nothing"];
+const OUTCOMES: [&str; 16] =
+    ["answer", "1", "2", "3", "4", "5", "6", "7", "8", "9", "10", "11", "12", "13", "14", "nothing"];
 const ANSWER: usize = 0;
-const NOTHING: usize = 14;
+const NOTHING: usize = 15;
 
 trait Reply: PartialEq + Debug {
     fn refusal(&self) -> u64;
@@ -119,6 +123,12 @@ impl Reply for RunReply {
 }
 
 impl Reply for SummaryReply {
+    fn refusal(&self) -> u64 {
+        self.refusal
+    }
+}
+
+impl Reply for FixBits {
     fn refusal(&self) -> u64 {
         self.refusal
     }
@@ -353,6 +363,18 @@ impl Tally {
             std::process::exit(1);
         }
         ours
+    }
+
+    /// Compared bit by bit. Whatever the model says, each float is from -1/2 to below 1/2 and is not -0.0.
+    fn fix_at(&mut self, run: Run, fix: u64) {
+        let reply = library::fix_at(run, fix);
+        self.compare(Kind::FixAt, &(run, fix), FixBits::from(reply), model::fix::fix_at(run, fix));
+        for deviate in [reply.fix.east, reply.fix.north] {
+            if !(-0.5..0.5).contains(&deviate) || deviate == 0.0 && deviate.is_sign_negative() {
+                println!("fix_at gives {deviate:?} for {:?}", (run, fix));
+                std::process::exit(1);
+            }
+        }
     }
 }
 
@@ -616,6 +638,7 @@ fn every_call_on(tally: &mut Tally, g: Generator) {
         tally.write_line(run, [7; 160], 0);
         tally.write_line(run, [7; 160], 160);
         tally.remake(run, count / 2, [7; 20], 19);
+        (0..6).for_each(|fix| tally.fix_at(run, fix));
         tally.read_line(&line_of(&run));
         tally.lookup(&[b"0,16807,0,2,0,5\n".to_vec(), line_of(&run)].concat(), 1);
     }
@@ -808,6 +831,40 @@ fn all_met(tally: &Tally, least: u64) {
     }
 }
 
+// Fixes.
+
+/// At widths 1 to 3 those of runs of up to 9 positions and those behind their end.
+fn all_short_fixes(share: u64) -> Tally {
+    let mut tally = Tally::default();
+    each_generator(1..=3, share, |generator| {
+        for first in 0..=9 {
+            for count in 0..=9 {
+                (0..=6).for_each(|fix| tally.fix_at(Run { generator, first, count }, fix));
+            }
+        }
+    });
+    tally
+}
+
+fn chosen_fixes(calls: fn(&mut Random) -> Vec<fixes::Call>) -> Tally {
+    let mut tally = Tally::default();
+    let mut r = Random::new(SEED + 6 * SHARES);
+    for (run, fix) in calls(&mut r) {
+        tally.fix_at(run, fix);
+    }
+    tally
+}
+
+fn random_fixes(share: u64) -> Tally {
+    let mut tally = Tally::default();
+    let mut r = Random::new(SEED + 7 * SHARES + share);
+    for _ in 0..FIX_CALLS / SHARES {
+        let (run, fix) = fixes::call(&mut r);
+        tally.fix_at(run, fix);
+    }
+    tally
+}
+
 // Random calls.
 
 /// Makes the generators of random calls.
@@ -950,6 +1007,7 @@ fn calls_beyond(tally: &mut Tally, r: &mut Random, more: u64) {
     tally.customary_multiplier(width + more);
     tally.index_places(g, places + more, number);
     tally.remake(run, position + more, [7; 20], 19);
+    tally.fix_at(run, position / 2 + more);
     tally.element(wider.generator, number);
     tally.orbit(wider.generator);
     tally.index(wider.generator, number);
@@ -960,6 +1018,7 @@ fn calls_beyond(tally: &mut Tally, r: &mut Random, more: u64) {
     tally.write_line(wider, [7; 160], 160);
     tally.read_line(&line_of(&wider));
     tally.remake(wider, position, [7; 20], 19);
+    tally.fix_at(wider, position / 2);
     let archive = samples::archive(r, samples::mixed_run, 0).bytes;
     (0..4).for_each(|line| tally.line(&archive, line + more));
 }
@@ -1004,5 +1063,11 @@ fn main() {
     let lists = shared(random_lists);
     lists.print("player, random lists");
     all_met(&lists, PLAYER_CALLS / 10_000);
+    shared(all_short_fixes).print("fixes, short runs, widths 1 to 3");
+    chosen_fixes(fixes::chosen_numbers).print("fixes, chosen numbers");
+    chosen_fixes(fixes::chosen_ends).print("fixes, about the ends of runs");
+    let random = shared(random_fixes);
+    random.print("fixes, random calls");
+    random.met(Kind::FixAt, &[ANSWER, 3, 4, 5, 12, 14], FIX_CALLS / 100);
     println!("\nno difference, {} seconds", start.elapsed().as_secs());
 }

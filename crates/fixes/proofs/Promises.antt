@@ -1,7 +1,7 @@
 -- The fix call: what its conditions leave of an accepted fix, what the two elements are, and the ways out of the call.
 use mathlib.Core.Path.{_≡_, refl, sym, ap, ap₂, subst, _∙_}
 use mathlib.Core.Bool.{Bool, true, false, not, true≢false}
-use Prim.Native.Nat.{ℕ, zero, suc, _+_, _*_, _/_, _^_, _≤_, _<_}
+use Prim.Native.Nat.{ℕ, zero, suc, _+_, _*_, _^_, _≤_, _<_}
 use native.Mathlib.Omega.{arith}
 use lib.Dec.{T, leb}
 use lib.IntN.{natAbs}
@@ -64,13 +64,6 @@ valid-fix run f e =
       below = λ i. subst (λ (m : ℕ). element g i < m) (modulus-linear g linear) (element-below g (valid .generator) i);
       later = leb-false (run .count) (2 * f + 1) (behind .1);
     }
-
--- what the machine tests is the later position
-pub later-off : (f count : ℕ) → count / 2 ≤ f → count ≤ 2 * f + 1
-later-off f count h = omega arith
-
-pub later-on : (f count : ℕ) → f < count / 2 → 2 * f + 1 < count
-later-on f count h = omega arith
 
 -- The two elements: that at the position of the first, and the one a step on.
 module _ (run : Run) (f : ℕ) {east : ℕ} (is : east ≡ element (run .generator) (run .first + 2 * f)) where

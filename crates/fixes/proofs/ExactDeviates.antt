@@ -1,8 +1,9 @@
--- The deviates: (2 * k - 2 ^ p) / 2 ^ (p + 1), for k up to 2 ^ p and p from 1 to 53, is a float, since its numerator is twice
--- k - 2 ^ (p - 1), whose size is 2 ^ 52 at most. With k the bits kept of an element that is the deviate less one half; at k = 0 it is -1/2 and at
--- k = 2 ^ p it would be 1/2, so all that is said of the order follows from one law: two of these floats compare as their k do.
+-- The deviates. (2 * k - 2 ^ p) / 2 ^ (p + 1), for k up to 2 ^ p and p from 1 to 53, is a float, since its numerator is twice
+-- k - 2 ^ (p - 1), whose size is 2 ^ 52 at most. With k the bits kept of an element it is that element's deviate, and it is what the
+-- machine makes of them. At k = 0 it is -1/2, and at k = 2 ^ p it would be 1/2; so what is said of the order follows from one law:
+-- two of these floats compare as their k do.
 use mathlib.Core.Path.{_≡_, refl, sym, ap, ap₂, subst, _∙_}
-use mathlib.Core.Bool.{Bool, true, false, cond, not, _&&_, _||_, Bool·beq}
+use mathlib.Core.Bool.{Bool, true, false, cond, not, _&&_, _||_}
 use Prim.Native.Nat.{ℕ, zero, suc, _+_, _*_, _-_, _/_, _%_, _^_, _≤_, _<_, min, zero-le}
 use native.Mathlib.Nat.{le-refl, le-of-lt, one-mul, mod-eq-of-lt, zero-div, pow-succ', two-pow-succ}
 use native.Mathlib.Omega.{arith}
@@ -14,24 +15,9 @@ use lib.Ieee.{Float, fin, binary64, below, level, round, sub, div, lt, le, eq, o
 use lib.Ieee.Back.{round-whole}
 use lib.Ieee.Exact.{HasValue}
 use lib.Ieee.Scale.{round-same}
-use borrow.Author.Tests.{lt-ltb, le-ltb, ltb-true, ltb-false, eq-eqb, ne-eqb, eqb-true, eqb-false}
-use Rattle.fixes.specs.Deviate.{placesOf, keptOf, numerator, denominator, IsExactly, nearestTo, deviateOf, half, minusHalf, Deviate}
-use Rattle.fixes.proofs.Floats.{lt-values, eq-values, quotient, difference, less-half, exact, twice-exact}
-
--- Tests of facts that hold together are equal.
-iff-ltb : (a b c d : ℕ) → (c < d → a < b) → (d ≤ c → b ≤ a) → ltb a b ≡ ltb c d
-iff-ltb a b c d f g = go (ltb c d) refl
-  where
-    go : (t : Bool) → ltb c d ≡ t → ltb a b ≡ t
-    go true e = lt-ltb a b (f (ltb-true c d e))
-    go false e = le-ltb a b (g (ltb-false c d e))
-
-iff-eqb : (a b c d : ℕ) → (c ≡ d → a ≡ b) → (a ≡ b → c ≡ d) → eqb a b ≡ eqb c d
-iff-eqb a b c d f g = go (eqb c d) refl
-  where
-    go : (t : Bool) → eqb c d ≡ t → eqb a b ≡ t
-    go true e = eq-eqb a b (f (eqb-true c d e))
-    go false e = ne-eqb a b (λ z. eqb-false c d e (g z))
+use borrow.Author.Tests.{lt-ltb, le-ltb, ltb-true, ltb-false, ne-eqb, eqb-true}
+use Rattle.fixes.specs.Deviate.{placesOf, keptOf, IsExactly, nearestTo, deviateOf, half, minusHalf, Deviate}
+use Rattle.fixes.proofs.Floats.{iff-ltb, iff-eqb, lt-values, eq-values, quotient, difference, less-half, exact, twice-exact}
 
 and-true : (a : Bool) → (a && true) ≡ a
 and-true true = refl
@@ -78,66 +64,55 @@ module _ (p : ℕ) (P : 1 ≤ p) (H : p ≤ 53) where
 
 -- Two of them compare as their numbers do: by the signs of the two numerators, over the one denominator.
 module _ (k l w : ℕ) where
-  less-by-sign : (s t : Bool) → ltb (2 * k) w ≡ s → ltb (2 * l) w ≡ t →
+  by-signs : (s t : Bool) → ltb (2 * k) w ≡ s → ltb (2 * l) w ≡ t →
       let y = cond s (negsuc (w - suc (2 * k))) (pos (2 * k - w)) in
       let z = cond t (negsuc (w - suc (2 * l))) (pos (2 * l - w)) in
-      below (not (nonNeg y)) (natAbs y) (not (nonNeg z)) (natAbs z) ≡ ltb k l
-  less-by-sign true true d e =
+      (below (not (nonNeg y)) (natAbs y) (not (nonNeg z)) (natAbs z) ≡ ltb k l)
+      × (level (not (nonNeg y)) (natAbs y) (not (nonNeg z)) (natAbs z) ≡ eqb k l)
+  by-signs true true d e =
       let u : 2 * k < w = ltb-true _ _ d in
       let v : 2 * l < w = ltb-true _ _ e in
-      iff-ltb (suc (w - suc (2 * l))) (suc (w - suc (2 * k))) k l (λ h. omega (arith, u, v)) (λ h. omega (arith, u, v))
-  less-by-sign true false d e =
+      let a = suc (w - suc (2 * k)) in
+      let b = suc (w - suc (2 * l)) in (
+        iff-ltb b a k l (λ h. omega (arith, u, v)) (λ h. omega (arith, u, v)),
+        and-true _ ∙ iff-eqb a b k l (λ h. omega (arith, u, v)) (λ h. omega (arith, u, v)),
+      )
+  by-signs true false d e =
       let u : 2 * k < w = ltb-true _ _ d in
       let v : w ≤ 2 * l = ltb-false _ _ e in
-      lt-ltb 0 (suc (w - suc (2 * k)) + (2 * l - w)) (omega arith) ∙ sym (lt-ltb k l (omega (arith, u, v)))
-  less-by-sign false true d e =
+      let a = suc (w - suc (2 * k)) in
+      let b = 2 * l - w in (
+        lt-ltb 0 (a + b) (omega arith) ∙ sym (lt-ltb k l (omega (arith, u, v))),
+        unlike-signs a b (omega arith) ∙ sym (ne-eqb k l (λ h. omega (arith, u, v))),
+      )
+  by-signs false true d e =
       let u : w ≤ 2 * k = ltb-false _ _ d in
-      let v : 2 * l < w = ltb-true _ _ e in
-      sym (le-ltb k l (omega (arith, u, v)))
-  less-by-sign false false d e =
-      let u : w ≤ 2 * k = ltb-false _ _ d in
-      let v : w ≤ 2 * l = ltb-false _ _ e in
-      iff-ltb (2 * k - w) (2 * l - w) k l (λ h. omega (arith, u, v)) (λ h. omega (arith, u, v))
-
-  equal-by-sign : (s t : Bool) → ltb (2 * k) w ≡ s → ltb (2 * l) w ≡ t →
-      let y = cond s (negsuc (w - suc (2 * k))) (pos (2 * k - w)) in
-      let z = cond t (negsuc (w - suc (2 * l))) (pos (2 * l - w)) in
-      level (not (nonNeg y)) (natAbs y) (not (nonNeg z)) (natAbs z) ≡ eqb k l
-  equal-by-sign true true d e =
-      let u : 2 * k < w = ltb-true _ _ d in
-      let v : 2 * l < w = ltb-true _ _ e in
-      and-true _ ∙ iff-eqb (suc (w - suc (2 * k))) (suc (w - suc (2 * l))) k l (λ h. omega (arith, u, v)) (λ h. omega (arith, u, v))
-  equal-by-sign true false d e =
-      let u : 2 * k < w = ltb-true _ _ d in
-      let v : w ≤ 2 * l = ltb-false _ _ e in
-      unlike-signs (suc (w - suc (2 * k))) (2 * l - w) (omega arith) ∙ sym (ne-eqb k l (λ h. omega (arith, u, v)))
-  equal-by-sign false true d e =
-      let u : w ≤ 2 * k = ltb-false _ _ d in
-      let v : 2 * l < w = ltb-true _ _ e in
-      unlike-signs (2 * k - w) (suc (w - suc (2 * l))) (omega arith) ∙ sym (ne-eqb k l (λ h. omega (arith, u, v)))
-  equal-by-sign false false d e =
+      let v : 2 * l < w = ltb-true _ _ e in (
+        sym (le-ltb k l (omega (arith, u, v))),
+        unlike-signs (2 * k - w) (suc (w - suc (2 * l))) (omega arith) ∙ sym (ne-eqb k l (λ h. omega (arith, u, v))),
+      )
+  by-signs false false d e =
       let u : w ≤ 2 * k = ltb-false _ _ d in
       let v : w ≤ 2 * l = ltb-false _ _ e in
-      and-true _ ∙ iff-eqb (2 * k - w) (2 * l - w) k l (λ h. omega (arith, u, v)) (λ h. omega (arith, u, v))
+      let a = 2 * k - w in
+      let b = 2 * l - w in (
+        iff-ltb a b k l (λ h. omega (arith, u, v)) (λ h. omega (arith, u, v)),
+        and-true _ ∙ iff-eqb a b k l (λ h. omega (arith, u, v)) (λ h. omega (arith, u, v)),
+      )
 
 module _ (p : ℕ) (P : 1 ≤ p) (H : p ≤ 53) {k l : ℕ} (K : k ≤ 2 ^ p) (L : l ≤ 2 ^ p) where
-  lt-at : lt (at p k) (at p l) ≡ ltb k l
-  lt-at =
+  compare-at : (lt (at p k) (at p l) ≡ ltb k l) × (eq (at p k) (at p l) ≡ eqb k l)
+  compare-at =
       let y = subℕ (2 * k) (2 ^ p) in
       let z = subℕ (2 * l) (2 ^ p) in
-      lt-values (not (nonNeg y)) (not (nonNeg z)) (natAbs y) (natAbs z) (2 ^ suc p) (pow-pos (suc p)) (at p k) (at p l)
-      (exact-at p P H k K)
-      (exact-at p P H l L)
-      ∙ less-by-sign k l (2 ^ p) (ltb (2 * k) (2 ^ p)) (ltb (2 * l) (2 ^ p)) refl refl
-
-  eq-at : eq (at p k) (at p l) ≡ eqb k l
-  eq-at =
-      let y = subℕ (2 * k) (2 ^ p) in
-      let z = subℕ (2 * l) (2 ^ p) in
-      eq-values (not (nonNeg y)) (not (nonNeg z)) (natAbs y) (natAbs z) (2 ^ suc p) (pow-pos (suc p)) (at p k) (at p l)
-      (exact-at p P H k K)
-      (exact-at p P H l L)
-      ∙ equal-by-sign k l (2 ^ p) (ltb (2 * k) (2 ^ p)) (ltb (2 * l) (2 ^ p)) refl refl
+      let s = not (nonNeg y) in
+      let t = not (nonNeg z) in
+      let signs = by-signs k l (2 ^ p) (ltb (2 * k) (2 ^ p)) (ltb (2 * l) (2 ^ p)) refl refl in
+      let e = exact-at p P H k K in
+      let f = exact-at p P H l L in (
+        lt-values s t (natAbs y) (natAbs z) (2 ^ suc p) (pow-pos (suc p)) (at p k) (at p l) e f ∙ signs .0,
+        eq-values s t (natAbs y) (natAbs z) (2 ^ suc p) (pow-pos (suc p)) (at p k) (at p l) e f ∙ signs .1,
+      )
 
 -- The first of them is -1/2, that in the middle +0.0, and the one behind the last 1/2.
 sub-less : (a b : ℕ) → a < b → subℕ a b ≡ negsuc (b - suc a)
@@ -193,12 +168,12 @@ first-least : (p : ℕ) → 1 ≤ p → p ≤ 53 → (k : ℕ) → k ≤ 2 ^ p �
 unfolding le
 first-least p P H k K =
     ap (λ (first : Float). lt first (at p k) || eq first (at p k)) (sym (at-first p))
-    ∙ ap₂ (λ (s t : Bool). s || t) (lt-at p P H zero-le K) (eq-at p P H zero-le K)
+    ∙ let c = compare-at p P H zero-le K in ap₂ (λ (s t : Bool). s || t) (c .0) (c .1)
     ∙ least-first k
 
 below-end : (p : ℕ) → 1 ≤ p → p ≤ 53 → (k : ℕ) → k < 2 ^ p → lt (at p k) half ≡ true
 below-end p P H k K =
-    ap (lt (at p k)) (sym (at-end p)) ∙ lt-at p P H (omega arith) (le-refl (2 ^ p)) ∙ lt-ltb k (2 ^ p) K
+    ap (lt (at p k)) (sym (at-end p)) ∙ compare-at p P H (le-of-lt K) (le-refl (2 ^ p)) .0 ∙ lt-ltb k (2 ^ p) K
 
 pub deviates : (n x : ℕ) → 1 ≤ n → x < 2 ^ n → Deviate n x (deviateOf n x)
 deviates n x N X =
@@ -213,8 +188,8 @@ deviates n x N X =
       exact = rw (difference (2 * k) (2 ^ p)) (exact-at p P H k J);
       at-least = first-least p P H k J;
       below = below-end p P H k K;
-      less = λ y Y. ap (lt (at p k)) (deviate-at n y) ∙ lt-at p P H J (le-of-lt (kept-below n y Y));
-      equal = λ y Y. ap (eq (at p k)) (deviate-at n y) ∙ eq-at p P H J (le-of-lt (kept-below n y Y));
+      less = λ y Y. ap (lt (at p k)) (deviate-at n y) ∙ compare-at p P H J (le-of-lt (kept-below n y Y)) .0;
+      equal = λ y Y. ap (eq (at p k)) (deviate-at n y) ∙ compare-at p P H J (le-of-lt (kept-below n y Y)) .1;
     })
 
 -- It is what the machine makes of the element: the bits kept and 2 ^ places as floats, their quotient, and one half taken off.
@@ -267,8 +242,10 @@ first-deviate n = deviate-at n 0 ∙ ap (at (placesOf n)) (zero-div (2 ^ (n - 53
 
 pub middle-deviate : (n : ℕ) → deviateOf (suc n) (2 ^ n) ≡ fin false 0 (pos 0)
 middle-deviate n =
-    let next : placesOf (suc n) ≡ suc (min n 52) = omega arith in
-    let parts : n ≡ min n 52 + (suc n - 53) = omega arith in
-    deviate-at (suc n) (2 ^ n)
-    ∙ ap₂ at next (ap (λ (k : ℕ). 2 ^ k / 2 ^ (suc n - 53)) parts ∙ ap (λ (z : ℕ). z / 2 ^ (suc n - 53)) (pow-add 2 (min n 52) (suc n - 53)) ∙ shl-shr (2 ^ min n 52) (suc n - 53))
-    ∙ at-middle (min n 52)
+    let m = min n 52 in
+    let dropped = suc n - 53 in
+    let next : placesOf (suc n) ≡ suc m = omega arith in
+    let parts : n ≡ m + dropped = omega arith in
+    let kept : keptOf (suc n) (2 ^ n) ≡ 2 ^ m =
+    ap (λ (z : ℕ). z / 2 ^ dropped) (ap (λ (k : ℕ). 2 ^ k) parts ∙ pow-add 2 m dropped) ∙ shl-shr (2 ^ m) dropped in
+    deviate-at (suc n) (2 ^ n) ∙ ap₂ at next kept ∙ at-middle m

@@ -10,7 +10,6 @@ use Rattle.generator.specs.Check.{refusalOf}
 use Rattle.runs.specs.declared.Run.{Run}
 use Rattle.runs.specs.Run.{shows, runRefusal}
 use Rattle.runs.proofs.Examples.{run}
-use Rattle.fixes.specs.declared.FixReply.{FixReply}
 use Rattle.fixes.specs.Deviate.{deviateOf, half, minusHalf}
 use Rattle.fixes.specs.Fix.{fixRefusal, fixOf, fixReply, zeros}
 
@@ -73,12 +72,25 @@ unfolding fixRefusal runRefusal refusalOf shows element step modulus deviateOf r
 past-the-end = refl
 
 -- 12 from the first position on that is off the run, and where 2 f + 1 would wrap; 14 before 12 and after 3 to 5.
-ends : map (fixRefusal (second 8)) (3 ∷ 4 ∷ 9223372036854775807 ∷ 9223372036854775808 ∷ 18446744073709551615 ∷ []) ≡ 0 ∷ 12 ∷ 12 ∷ 12 ∷ 12 ∷ []
+ends :
+    map (fixRefusal (second 8))
+    (3 ∷ 4 ∷ 9223372036854775807 ∷ 9223372036854775808 ∷ 18446744073709551615 ∷ [])
+    ≡ 0 ∷ 12 ∷ 12 ∷ 12 ∷ 12 ∷ []
 unfolding fixRefusal runRefusal refusalOf modulus
 ends = refl
 
-order : map (λ (r : Run). fixRefusal r 4)
-    (run 65 1 0 1 0 0 ∷ run 4 16 3 1 0 0 ∷ run 4 5 3 1 0 0 ∷ run 0 16807 0 0 0 9 ∷ run 0 16807 0 1 0 0 ∷ run 0 16807 0 1 0 9 ∷ run 0 16807 0 1 0 10 ∷ run 4 5 3 1 0 9 ∷ run 4 5 3 1 0 10 ∷ [])
+order :
+    map (λ (r : Run). fixRefusal r 4)
+    (run 65 1 0 1 0 0
+    ∷ run 4 16 3 1 0 0
+    ∷ run 4 5 3 1 0 0
+    ∷ run 0 16807 0 0 0 9
+    ∷ run 0 16807 0 1 0 0
+    ∷ run 0 16807 0 1 0 9
+    ∷ run 0 16807 0 1 0 10
+    ∷ run 4 5 3 1 0 9
+    ∷ run 4 5 3 1 0 10
+    ∷ [])
     ≡ 3 ∷ 4 ∷ 5 ∷ 4 ∷ 5 ∷ 14 ∷ 14 ∷ 12 ∷ 0 ∷ []
 unfolding fixRefusal runRefusal refusalOf modulus
 order = refl

@@ -1,17 +1,16 @@
--- Floats by the fractions that they are. The quotient of two whole numbers is their fraction, rounded once; one half taken off a
--- fraction is the difference, rounded once; a fraction with few digits over a power of two is not changed by rounding; and two
--- floats compare as their fractions do. That two fractions are equal is said by their products crosswise.
+-- Floats by the fractions that they are. Two floats compare as their fractions do; the quotient of two whole numbers is their
+-- fraction, rounded once; one half taken off a fraction is the difference, rounded once; and a fraction with few digits over a power
+-- of two is not changed by rounding. That two fractions are equal is said by their products crosswise.
 use mathlib.Core.Path.{_≡_, refl, sym, ap, ap₂, subst, _∙_}
-use mathlib.Core.Bool.{Bool, true, false, cond, not, _&&_, _||_, Bool·beq, true≢false}
+use mathlib.Core.Bool.{Bool, true, false, cond, _&&_, _||_, Bool·beq, true≢false}
 use Prim.Native.Nat.{ℕ, zero, suc, _+_, _*_, _-_, _^_, _≤_, _<_, zero-le}
 use native.Mathlib.Nat.{mul-one, mul-comm, mul-assoc, mul-left-comm, mul-right-comm, mul-sub, add-mul, zero-mul, mul-pos}
 use native.Mathlib.Nat.{mul-le-mul-right, mul-lt-mul-of-pos-right, le-of-mul-le-mul-right, lt-of-mul-lt-mul-right}
 use native.Mathlib.Nat.{eq-of-mul-eq-mul-right, lt-of-lt-of-le, pow-succ'}
 use native.Mathlib.Omega.{arith}
 use lib.Dec.{eqb, ltb}
-use lib.IntN.{ℤ, pos, negsuc, natAbs, subℕ, _-ℤ_}
+use lib.IntN.{pos, negsuc, subℕ, _-ℤ_}
 use lib.Pow.{pow-add, pow-pos, pow-mono, shl-lt}
-use lib.Signed.{nonNeg}
 use lib.Ieee.{Float, nan, inf, fin, binary64, up, down, below, level, round, neg, sum, add, sub, div, lt, eq}
 use lib.Ieee.Exact.{HasValue, round-exact}
 use lib.Ieee.Fits.{up-pos, down-pos}
@@ -19,33 +18,45 @@ use lib.Ieee.Scale.{round-same}
 use borrow.Author.Tests.{lt-ltb, le-ltb, ltb-true, ltb-false, eq-eqb, ne-eqb, eqb-true, eqb-false}
 use Rattle.fixes.specs.Deviate.{nearestTo, half}
 
+-- Tests of facts that hold together are equal.
+pub iff-ltb : (a b c d : ℕ) → (c < d → a < b) → (d ≤ c → b ≤ a) → ltb a b ≡ ltb c d
+iff-ltb a b c d f g = go (ltb c d) refl
+  where
+    go : (t : Bool) → ltb c d ≡ t → ltb a b ≡ t
+    go true e = lt-ltb a b (f (ltb-true c d e))
+    go false e = le-ltb a b (g (ltb-false c d e))
+
+pub iff-eqb : (a b c d : ℕ) → (c ≡ d → a ≡ b) → (a ≡ b → c ≡ d) → eqb a b ≡ eqb c d
+iff-eqb a b c d f g = go (eqb c d) refl
+  where
+    go : (t : Bool) → eqb c d ≡ t → eqb a b ≡ t
+    go true e = eq-eqb a b (f (eqb-true c d e))
+    go false e = ne-eqb a b (λ z. eqb-false c d e (g z))
+
 -- x / d and a / c are the same fraction.
 record Same (x d a c : ℕ) : Type 0 where
   pub crosswise : x * c ≡ a * d
 
 -- Of fractions over one denominator the numerators tell which is less, and whether they are equal.
 module _ {x y a b c d : ℕ} (C : 0 < c) (D : 0 < d) (p : Same x d a c) (q : Same y d b c) where
+  less : a < b → x < y
+  less h =
+      let scaled : a * d < b * d = mul-lt-mul-of-pos-right h D in
+      lt-of-mul-lt-mul-right c (omega (arith, scaled, p .crosswise, q .crosswise))
+
+  no-less : b ≤ a → y ≤ x
+  no-less h =
+      let scaled : b * d ≤ a * d = mul-le-mul-right d h in
+      le-of-mul-le-mul-right (omega (arith, scaled, p .crosswise, q .crosswise)) C
+
   same-ltb : ltb x y ≡ ltb a b
-  same-ltb = go (ltb a b) refl
-    where
-      go : (t : Bool) → ltb a b ≡ t → ltb x y ≡ t
-      go true e =
-          let h : a * d < b * d = mul-lt-mul-of-pos-right (ltb-true a b e) D in
-          lt-ltb x y (lt-of-mul-lt-mul-right c (omega (arith, h, p .crosswise, q .crosswise)))
-      go false e =
-          let h : b * d ≤ a * d = mul-le-mul-right d (ltb-false a b e) in
-          le-ltb x y (le-of-mul-le-mul-right (omega (arith, h, p .crosswise, q .crosswise)) C)
+  same-ltb = iff-ltb x y a b less no-less
 
   same-eqb : eqb x y ≡ eqb a b
-  same-eqb = go (eqb a b) refl
-    where
-      go : (t : Bool) → eqb a b ≡ t → eqb x y ≡ t
-      go true e =
-          eq-eqb x y
-          (eq-of-mul-eq-mul-right c C x y (p .crosswise ∙ ap (λ (z : ℕ). z * d) (eqb-true a b e) ∙ sym (q .crosswise)))
-      go false e =
-          ne-eqb x y
-          (λ (z : x ≡ y). eqb-false a b e (eq-of-mul-eq-mul-right d D a b (sym (p .crosswise) ∙ ap (λ (u : ℕ). u * c) z ∙ q .crosswise)))
+  same-eqb =
+      iff-eqb x y a b
+      (λ z. eq-of-mul-eq-mul-right c C x y (p .crosswise ∙ ap (λ (u : ℕ). u * d) z ∙ sym (q .crosswise)))
+      (λ z. eq-of-mul-eq-mul-right d D a b (sym (p .crosswise) ∙ ap (λ (u : ℕ). u * c) z ∙ q .crosswise))
 
 same-zero : (d c : ℕ) → Same 0 d 0 c
 same-zero d c = record { crosswise = zero-mul c ∙ sym (zero-mul d) }
@@ -65,41 +76,47 @@ module _ {x y a b c d : ℕ} (C : 0 < c) (D : 0 < d) (p : Same x d a c) (q : Sam
   same-level : (s t : Bool) → level s x t y ≡ level s a t b
   same-level s t = ap₂ (λ (u v : Bool). u && (Bool·beq s t || v)) (same-eqb C D p q) (same-eqb C D p (same-zero d c))
 
--- Two floats over one denominator compare as their numerators do.
+-- Two floats over one denominator compare as their numerators do. The machine has both over another one, the product of theirs.
 over : (u c a e d : ℕ) → u * c ≡ a * e → Same (u * d) (e * d) a c
 over u c a e d p = record { crosswise = mul-right-comm u d c ∙ ap (λ (z : ℕ). z * d) p ∙ mul-assoc a e d }
 
-over' : (u c a e d : ℕ) → u * c ≡ a * e → Same (u * d) (d * e) a c
-over' u c a e d p = record { crosswise = over u c a e d p .crosswise ∙ ap (λ (z : ℕ). a * z) (mul-comm e d) }
-
 module _ (s t : Bool) (a b c : ℕ) (C : 0 < c) where
-  pub lt-values : (x y : Float) → HasValue x s a c → HasValue y t b c → lt x y ≡ below s a t b
-  unfolding lt
-  lt-values nan y p q = absurd p
-  lt-values (inf u) y p q = absurd p
-  lt-values (fin u m e) nan p q = absurd q
-  lt-values (fin u m e) (inf v) p q = absurd q
-  lt-values (fin u m e) (fin v n d) p q =
-      ap₂ (λ (i j : Bool). below i (m * up e * down d) j (n * up d * down e)) (p .0) (q .0)
-      ∙ same-below C (mul-pos (down-pos e) (down-pos d))
-      (over (m * up e) c a (down e) (down d) (p .1))
-      (over' (n * up d) c b (down d) (down e) (q .1))
-      s
-      t
+  record Compared (x y : Float) : Type 0 where
+    pub left : ℕ
+    pub right : ℕ
+    pub denominator : ℕ
+    pub positive : 0 < denominator
+    pub left-is : Same left denominator a c
+    pub right-is : Same right denominator b c
+    pub less : lt x y ≡ below s left t right
+    pub equal : eq x y ≡ level s left t right
 
-  pub eq-values : (x y : Float) → HasValue x s a c → HasValue y t b c → eq x y ≡ level s a t b
-  unfolding eq
-  eq-values nan y p q = absurd p
-  eq-values (inf u) y p q = absurd p
-  eq-values (fin u m e) nan p q = absurd q
-  eq-values (fin u m e) (inf v) p q = absurd q
-  eq-values (fin u m e) (fin v n d) p q =
-      ap₂ (λ (i j : Bool). level i (m * up e * down d) j (n * up d * down e)) (p .0) (q .0)
-      ∙ same-level C (mul-pos (down-pos e) (down-pos d))
-      (over (m * up e) c a (down e) (down d) (p .1))
-      (over' (n * up d) c b (down d) (down e) (q .1))
-      s
-      t
+  compared : (x y : Float) → HasValue x s a c → HasValue y t b c → Compared x y
+  unfolding lt eq
+  compared nan y p q = absurd p
+  compared (inf u) y p q = absurd p
+  compared (fin u m e) nan p q = absurd q
+  compared (fin u m e) (inf v) p q = absurd q
+  compared (fin u m e) (fin v n d) p q =
+      let x = m * up e * down d in
+      let y = n * up d * down e in
+      record {
+        left = x;
+        right = y;
+        denominator = down e * down d;
+        positive = mul-pos (down-pos e) (down-pos d);
+        left-is = over (m * up e) c a (down e) (down d) (p .1);
+        right-is = subst (λ (k : ℕ). Same y k b c) (mul-comm (down d) (down e)) (over (n * up d) c b (down d) (down e) (q .1));
+        less = ap₂ (λ (i j : Bool). below i x j y) (p .0) (q .0);
+        equal = ap₂ (λ (i j : Bool). level i x j y) (p .0) (q .0);
+      }
+
+  module _ (x y : Float) (p : HasValue x s a c) (q : HasValue y t b c) where
+    pub lt-values : lt x y ≡ below s a t b
+    lt-values = let r = compared x y p q in r .less ∙ same-below C (r .positive) (r .left-is) (r .right-is) s t
+
+    pub eq-values : eq x y ≡ level s a t b
+    eq-values = let r = compared x y p q in r .equal ∙ same-level C (r .positive) (r .left-is) (r .right-is) s t
 
 -- The quotient of two whole numbers is their fraction, rounded once.
 quotient-crosswise : (u v k w e d : ℕ) → u * 1 ≡ k * e → v * 1 ≡ w * d → u * d * w ≡ k * (v * e)
@@ -179,7 +196,8 @@ module _ (a b u w : ℕ) (p : a * w ≡ u * b) where
 doubled : (m k w e : ℕ) → m * w ≡ k * e → m * 2 * w ≡ 2 * k * e
 doubled m k w e p = omega (arith, p)
 
-pub less-half : (k w : ℕ) → 0 < w → (x : Float) → HasValue x false k w → sub binary64 x half ≡ nearestTo (pos (2 * k) -ℤ pos w) (2 * w)
+pub less-half : (k w : ℕ) → 0 < w → (x : Float) → HasValue x false k w →
+    sub binary64 x half ≡ nearestTo (pos (2 * k) -ℤ pos w) (2 * w)
 unfolding sub add sum neg
 less-half k w W nan p = absurd p
 less-half k w W (inf s) p = absurd p

@@ -1,5 +1,5 @@
 -- The fix call: what its conditions leave of an accepted fix, what the two elements are, and the ways out of the call.
-use mathlib.Core.Path.{_≡_, refl, sym, ap, ap₂, subst, _∙_}
+use mathlib.Core.Path.{_≡_, refl, sym, ap, subst, _∙_}
 use mathlib.Core.Bool.{Bool, true, false, not, true≢false}
 use Prim.Native.Nat.{ℕ, zero, suc, _+_, _*_, _^_, _≤_, _<_}
 use native.Mathlib.Omega.{arith}
@@ -13,7 +13,6 @@ use Rattle.refusals.specs.declared.Refusal.{Refusal}
 use Rattle.refusals.specs.Refusals.{numberOf}
 use Rattle.refusals.proofs.Conditions.{or-else-none}
 use Rattle.refusals.proofs.Replies.{number-nonzero, number-suc}
-use Rattle.generator.specs.declared.Generator.{Generator}
 use Rattle.generator.specs.declared.Kind.{Kind}
 use Rattle.generator.specs.declared.Kind.the-variants as kind
 use Rattle.generator.specs.Recurrence.{kindOf, step, element}

@@ -1,4 +1,5 @@
--- The deviate of an element, less one half (document 02, note 9; SCOPE 4.9): as a fraction, and as the float that is exactly it.
+-- The deviate of an element (document 02, note 9; SCOPE 4.9), here always with the one half taken off: as a fraction, and as the
+-- float that is exactly it.
 -- Floats, and what they mean, are those of the logic's library on IEEE 754, `lib.Ieee`.
 use mathlib.Core.Path.{_≡_}
 use mathlib.Core.Bool.{true, false, not}
@@ -32,7 +33,7 @@ IsExactly float z d = HasValue float (not (nonNeg z)) (natAbs z) d
 abbrev pub nearestTo : ℤ → ℕ → Float
 nearestTo z d = round binary64 (not (nonNeg z)) (natAbs z) d
 
--- The deviate of the element x at width n, less one half, as a float.
+-- The deviate of the element x at width n as a float.
 unfoldable pub deviateOf : ℕ → ℕ → Float
 deviateOf n x = nearestTo (numerator n x) (denominator n)
 

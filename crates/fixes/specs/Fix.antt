@@ -31,7 +31,7 @@ unfoldable pub fixRefusal : Run → ℕ → ℕ
 fixRefusal run f =
     orElse (runRefusal run) (conditions (inexact (kindOf (run .generator))) (leb (run .count) (2 * f + 1)))
 
--- The deviate of what position p shows, less one half.
+-- The deviate of what position p shows.
 abbrev pub deviateAt : Run → ℕ → Float
 deviateAt run p = deviateOf (run .generator .width) (shows run p)
 

@@ -8,8 +8,8 @@ use refusals::Check;
 use refusals::Refusal;
 use runs::Run;
 
-// The run's, then the kind, then the later position: it is none of the run's exactly if the fixes before it, half the count, are
-// not more. No sum is formed, which could wrap.
+// The run's conditions, then the kind, then the later position. A run has half as many fixes as positions, so that position is off
+// the run exactly if the number of the fix is not below half the count; no sum is formed, which could wrap.
 pub fn fix_checked(run: Run, fix: u64) -> Check
     ensures { λ r. ⌜ checkNumber r ≡ fixRefusal run fix ⌝ }
 {

@@ -1,6 +1,6 @@
 // The deviates of an accepted fix.
 ghost use mathlib.Core.Path.{_≡_};
-ghost use Prim.Native.Nat.{_^_, _≤_, _<_, min};
+ghost use Prim.Native.Nat.{_^_, _≤_, _<_};
 ghost use Rattle.fixes.specs.Deviate.{placesOf, deviateOf};
 ghost use Rattle.fixes.specs.Fix.{fixRefusal, fixOf};
 use crate::Fix;
@@ -21,8 +21,7 @@ fn places_of(width: u64) -> u64
 // The deviate of an element, less one half. Both casts are of whole numbers up to 2^53, the quotient is by a power of two, and the
 // difference has no more digits than a float: nothing is rounded.
 pub fn deviate(x: u64, width: u64) -> f64
-    requires { ⌜ (1 ≤ width) × (width ≤ 64) ⌝ }
-    requires { ⌜ x < 2 ^ width ⌝ }
+    requires { ⌜ (width ≤ 64) × (x < 2 ^ width) ⌝ }
     ensures { λ r. ⌜ r ≡ deviateOf width x ⌝ }
 {
     let places = places_of(width);

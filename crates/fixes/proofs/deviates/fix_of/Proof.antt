@@ -4,7 +4,6 @@ use mathlib.Core.Path.{ap, ap₂, _∙_}
 use Prim.Native.Nat.{_^_, _<_}
 use native.Mathlib.Omega.{arith}
 use lib.Ieee.{Float}
-use Rattle.fixes.specs.declared.Fix.{Fix}
 use Rattle.fixes.specs.Deviate.{deviateOf}
 use Rattle.fixes.proofs.Promises.{ValidFix, valid-fix, is-element, east-shown, north-shown, shown-below}
 use Rattle.fixes.proofs.deviates.fix_of.Statement.{statement}
@@ -44,12 +43,12 @@ north-below c =
 deviate-requires : tie.Need-deviate-requires
 deviate-requires c κs =
     let v = accepted (c .before .before .before .before) in
-    ((v .width-low, v .width-high), omega (arith, east-below (c .before), north-below c))
+    (v .width-high, omega (arith, east-below (c .before), north-below c))
 
 deviate-requires-2 : tie.Need-deviate-requires-2
 deviate-requires-2 c κs =
     let v = accepted (c .before .before .before .before .before) in
-    ((v .width-low, v .width-high), omega (arith, east-below (c .before .before), north-below (c .before)))
+    (v .width-high, omega (arith, east-below (c .before .before), north-below (c .before)))
 
 returns : tie.Need-returns
 returns c =

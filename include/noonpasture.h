@@ -176,8 +176,8 @@ np_value        np_player_show(const np_player *player);
 /* Fix number `fix` of a run: east from the element at position 2 * fix, north from that at 2 * fix + 1. At
  * widths n to 53 a deviate is element / 2^n - 1/2; above, the lowest n - 53 bits are dropped, and what is left
  * is divided by 2^53 in place of 2^n. Each is that fraction exactly, from -1/2 to below 1/2; a deviate of 0 is
- * +0.0. The processor rounds to nearest, as a C program finds it: nothing is rounded here, but the sign of a 0
- * depends on it. Refusals 3, 4, 5, then 14, then 12; no sum wraps, whatever fix is. */
+ * +0.0 as long as the processor rounds to nearest, as at a program's start: nothing is rounded here, but the
+ * sign of a 0 depends on it. Refusals 3, 4, 5, then 14, then 12; no sum wraps, whatever fix is. */
 np_fix_reply    np_fix_at(np_run run, uint64_t fix);
 
 /* A refusal's reason in words; of 0 and of numbers that are no refusal it says so. */

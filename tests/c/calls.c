@@ -7,6 +7,7 @@
  * bytes is null here. Each call is made twice, over memory filled with two different bytes, and the
  * replies must be the same. Compiles as C99 and as C++17. */
 
+#include <fenv.h>
 #include <inttypes.h>
 #include <stdarg.h>
 #include <stdio.h>
@@ -205,11 +206,28 @@ static void try_deviate(double x, uint64_t element)
         fail("a deviate that is not its element's");
 }
 
+/* Nothing is rounded, so that the numbers are the same however the processor rounds; but a 0 may be -0.0 then. */
+static void try_rounding(int mode, uint64_t fix, np_fix_reply f)
+{
+    np_fix_reply other;
+
+    if (fesetround(mode) != 0)
+        fail("no such rounding mode");
+    other = np_fix_at(run, fix);
+    fesetround(FE_TONEAREST);
+    if (other.refusal != f.refusal || other.fix.east != f.fix.east || other.fix.north != f.fix.north)
+        fail("a fix depends on how the processor rounds");
+}
+
 /* Beside a refusal both are +0.0. */
 static np_fix_reply fix_at(uint64_t fix)
 {
     np_fix_reply f = np_fix_at(run, fix);
     uint64_t shown[2] = {0, 0};
+
+    try_rounding(FE_DOWNWARD, fix, f);
+    try_rounding(FE_UPWARD, fix, f);
+    try_rounding(FE_TOWARDZERO, fix, f);
 
     if (f.refusal != 0) {
         if (bits_of(f.fix.east) != 0 || bits_of(f.fix.north) != 0)

@@ -667,8 +667,8 @@ mod player {
 mod fixes {
     use super::*;
 
-    /// A reply's fields, each read as a caller reads it. A copy of the whole reply would be timed in their place: it waits
-    /// until all of them are written.
+    /// A reply's fields, each read by itself, as a caller reads them. Handed on whole, the library's reply would be
+    /// copied here, and the copy timed with it.
     fn read(FixReply { refusal, fix: Fix { east, north } }: FixReply) -> (u64, f64, f64) {
         (black_box(refusal), black_box(east), black_box(north))
     }

@@ -26,7 +26,7 @@ use Rattle.fixes.specs.declared.Fix.{Fix}
 use Rattle.fixes.specs.declared.FixReply.{FixReply}
 use Rattle.fixes.specs.declared.FixAnswer.the-variants as answer
 use Rattle.fixes.specs.Deviate.{numerator, denominator, Deviate}
-use Rattle.fixes.specs.Fix.{inexact, conditions, fixRefusal, deviateAt, fixOf, fixReply, plainFix, FixPromise}
+use Rattle.fixes.specs.Fix.{inexactKind, conditions, fixRefusal, deviateAt, fixOf, fixReply, plainFix, FixPromise}
 use Rattle.fixes.proofs.ExactDeviates.{deviates}
 
 -- An accepted fix: its run is accepted, the modulus is a power of two, and its later position is on the run.
@@ -37,7 +37,7 @@ pub record ValidFix (run : Run) (f : ℕ) : Type 0 where
   pub below : (i : ℕ) → element (run .generator) i < 2 ^ run .generator .width
   pub later : 2 * f + 1 < run .count
 
-exact-kind : (k : Kind) → inexact k ≡ false → k ≡ kind.Linear
+exact-kind : (k : Kind) → inexactKind k ≡ false → k ≡ kind.Linear
 exact-kind kind.Linear e = refl
 exact-kind kind.Prime e = absurd (true≢false e)
 
@@ -52,7 +52,7 @@ unfolding fixRefusal
 valid-fix run f e =
     let g = run .generator in
     let parts = or-else-none (runRefusal run) _ e in
-    let behind = neither (inexact (kindOf g)) (leb (run .count) (2 * f + 1)) (parts .1) in
+    let behind = neither (inexactKind (kindOf g)) (leb (run .count) (2 * f + 1)) (parts .1) in
     let linear = exact-kind (kindOf g) (behind .0) in
     let valid = valid-run run (parts .0) in
     let v = accepted-kind g linear (valid .generator) in

@@ -18,9 +18,9 @@ use Rattle.fixes.specs.declared.FixAnswer.the-variants as answer
 use Rattle.fixes.specs.Deviate.{deviateOf, Deviate}
 
 -- The modulus is no power of two: so it is of the prime-modulus models, at width 0.
-abbrev pub inexact : Kind → Bool
-inexact Linear = false
-inexact Prime = true
+abbrev pub inexactKind : Kind → Bool
+inexactKind Linear = false
+inexactKind Prime = true
 
 -- 14 where a deviate would be inexact, then 12 where a position is off the run.
 abbrev pub conditions : Bool → Bool → ℕ
@@ -29,7 +29,7 @@ conditions inexact off = cond inexact 14 (cond off 12 0)
 -- The refusal that a fix meets, 0 for none: 3 to 5 of its run, then 14, then 12 if the later of its positions is none of the run's.
 unfoldable pub fixRefusal : Run → ℕ → ℕ
 fixRefusal run f =
-    orElse (runRefusal run) (conditions (inexact (kindOf (run .generator))) (leb (run .count) (2 * f + 1)))
+    orElse (runRefusal run) (conditions (inexactKind (kindOf (run .generator))) (leb (run .count) (2 * f + 1)))
 
 -- The deviate of what position p shows.
 abbrev pub deviateAt : Run → ℕ → Float

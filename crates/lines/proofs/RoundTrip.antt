@@ -48,7 +48,7 @@ module _ {run : Run} {before after : List ℕ} {wrote : ValueReply} (w : WritePr
   unfolding writeRefusal
   written-run = or-else-none (runRefusal run) _ accepted .0
 
-  written-line : take (wrote .value) after ≡ lineOf run
+  pub written-line : take (wrote .value) after ≡ lineOf run
   written-line =
       ap₂ take (ap (λ (r : ValueReply). r .value) (w .equals) ∙ reply-value _ accepted)
       (w .buffer ∙ ap (λ (n : ℕ). bufferAfter n run before) accepted)

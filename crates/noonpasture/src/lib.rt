@@ -18,6 +18,8 @@ ghost use Rattle.remake.specs.Remake.{RemakePromise};
 ghost use Rattle.player.specs.PlainPlayer.{Open, Forward, Back, SetMark, Return, Show};
 ghost use Rattle.player.specs.Player.{PlayerPromise, told};
 ghost use Rattle.fixes.specs.Fix.{FixPromise};
+ghost use Rattle.lanes.specs.Lane.{LanePromise};
+ghost use Rattle.lanes.specs.WriteLane.{WriteLanePromise};
 ghost use Rattle.archive_line.specs.Line.{PartPromise};
 ghost use Rattle.lookup.specs.Lookup.{LookupPromise};
 ghost use Rattle.summary.specs.Summary.{SummaryPromise};
@@ -236,4 +238,20 @@ pub extern "C" fn np_fix_at(run: Run, fix: u64) -> FixReply
     ensures { λ r. ⌜ FixPromise run fix r ⌝ }
 {
     of_fix(fixes::fix_at(run, fix))
+}
+
+// The run of the lane with this number, of so many.
+#[no_mangle]
+pub extern "C" fn np_lane(run: Run, lanes: u64, lane: u64) -> RunReply
+    ensures { λ r. ⌜ LanePromise run lanes lane r ⌝ }
+{
+    of_run(lanes::lane(run, lanes, lane))
+}
+
+// Writes the line of that lane, and gives its length.
+#[no_mangle]
+pub extern "C" fn np_write_lane(run: Run, lanes: u64, lane: u64, buffer: &mut [u8]) -> ValueReply
+    ensures { λ r. ⌜ WriteLanePromise run lanes lane (now (buffer .entry)) (now (buffer .exit)) r ⌝ }
+{
+    of_value(lanes::write_lane(run, lanes, lane, buffer))
 }

@@ -21,6 +21,7 @@ numberOf refusal.DuplicateLine = 11  -- twin
 numberOf refusal.PositionOutOfRange = 12  -- off the run
 numberOf refusal.BookmarkInvalid = 13  -- mark
 numberOf refusal.Inexact = 14  -- inexact
+numberOf refusal.LanesOutOfRange = 15  -- lanes
 
 -- The number that a check gives, 0 where it accepts.
 abbrev pub checkNumber : Check → ℕ

@@ -19,6 +19,7 @@ pub enum Refusal {
     PositionOutOfRange,
     BookmarkInvalid,
     Inexact,
+    LanesOutOfRange,
 }
 
 pub enum Check {
@@ -57,6 +58,7 @@ pub fn number(refusal: Refusal) -> u64
         Refusal::PositionOutOfRange => 12,
         Refusal::BookmarkInvalid => 13,
         Refusal::Inexact => 14,
+        Refusal::LanesOutOfRange => 15,
     }
 }
 

@@ -39,7 +39,7 @@ module _ {next x : ℕ → ℕ} (s : Steps next x) where
   steps-follow = record { next = λ i j e. s .step i ∙ ap next e ∙ sym (s .step j) }
 
   -- d single steps from element i
-  stepped-along : (i d : ℕ) → stepped next d (x i) ≡ x (i + d)
+  pub stepped-along : (i d : ℕ) → stepped next d (x i) ≡ x (i + d)
   unfolding stepped
   stepped-along i zero = ap x (sym (add-zero i))
   stepped-along i (suc d) = ap next (stepped-along i d) ∙ sym (s .step (i + d)) ∙ ap x (sym (add-suc i d))

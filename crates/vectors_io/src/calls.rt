@@ -11,6 +11,7 @@ use crate::replies::Reply;
 use fixes::plain::of_fix;
 use gaps::plain::of_gap;
 use generator::Generator;
+use lines::RunAnswer;
 use lines::plain::of_run;
 use low_places::plain::of_places;
 use orbits::plain::of_index;
@@ -29,6 +30,7 @@ pub fn reply(letter: u8, n: &[u64]) -> Reply {
         b'F' => archives::reply(letter, n),
         b'G' => gap(n),
         b'I' => index(n),
+        b'J' => lane(n),
         b'K' => players::reply(n),
         b'L' => archives::reply(letter, n),
         b'M' => remake(n),
@@ -36,6 +38,7 @@ pub fn reply(letter: u8, n: &[u64]) -> Reply {
         b'P' => predecessor(n),
         b'R' => read_line(n),
         b'S' => archives::summary(n),
+        b'T' => write_lane(n),
         b'V' => variety(n),
         b'W' => write_line(n),
         _ => Reply::Unreadable,
@@ -105,6 +108,13 @@ fn index_places(n: &[u64]) -> Reply {
     Reply::Five(r.refusal, r.found, r.index, r.recurs, r.exponent)
 }
 
+fn lane(n: &[u64]) -> Reply {
+    if n.len() != 8 {
+        return Reply::Unreadable;
+    }
+    of_line(lanes::lane(run_of(n), n[6], n[7]))
+}
+
 fn orbit(n: &[u64]) -> Reply {
     if n.len() != 4 {
         return Reply::Unreadable;
@@ -125,18 +135,7 @@ fn read_line(n: &[u64]) -> Reply {
     let Bytes::Count(count) = read_bytes(n, &mut buffer) else {
         return Reply::Unreadable;
     };
-    let r = of_run(lines::read_line(&buffer[0..count]));
-    let run = r.run;
-    let g = run.generator;
-    Reply::Seven(
-        r.refusal,
-        g.width,
-        g.multiplier,
-        g.increment,
-        g.seed,
-        run.first,
-        run.count,
-    )
+    of_line(lines::read_line(&buffer[0..count]))
 }
 
 // The last number is how many of a buffer's five numbers are lent; all five stand in the reply.
@@ -181,6 +180,19 @@ fn write_line(n: &[u64]) -> Reply {
     of_one(lines::write_line(run_of(n), &mut buffer[0..length]))
 }
 
+// The last number is the buffer's length.
+fn write_lane(n: &[u64]) -> Reply {
+    let mut buffer = [0u8; 256];
+    if n.len() != 9 {
+        return Reply::Unreadable;
+    }
+    let length = n[8] as usize;
+    if 256 < length {
+        return Reply::Unreadable;
+    }
+    of_one(lanes::write_lane(run_of(n), n[6], n[7], &mut buffer[0..length]))
+}
+
 // The generator of the first four numbers.
 fn generator_of(n: &[u64]) -> Generator
     requires { ⌜ 4 ≤ length (now n) ⌝ }
@@ -207,4 +219,20 @@ pub fn run_of(n: &[u64]) -> Run
 fn of_one(answer: ValueAnswer) -> Reply {
     let r = of_value(answer);
     Reply::Two(r.refusal, r.value)
+}
+
+// The run's six numbers stand behind the refusal.
+fn of_line(answer: RunAnswer) -> Reply {
+    let r = of_run(answer);
+    let run = r.run;
+    let g = run.generator;
+    Reply::Seven(
+        r.refusal,
+        g.width,
+        g.multiplier,
+        g.increment,
+        g.seed,
+        run.first,
+        run.count,
+    )
 }

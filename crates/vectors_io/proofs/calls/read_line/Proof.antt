@@ -33,8 +33,8 @@ part-read-line-end c =
 read-line-requires : tie.Need-read-line-requires
 read-line-requires c κs = search needs
 
-of-run-requires : tie.Need-of-run-requires
-of-run-requires c κs = search needs
+of-line-requires : tie.Need-of-line-requires
+of-line-requires c κs = search needs
 
 returns-2 : tie.Need-returns-2
 returns-2 c = search needs
@@ -52,5 +52,5 @@ read-line-spec =
     part-read-line-start
     part-read-line-end
     read-line-requires
-    of-run-requires
+    of-line-requires
     returns-2)

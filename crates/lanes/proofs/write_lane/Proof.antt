@@ -1,0 +1,55 @@
+-- `lanes::write_lane` meets its contract: the lane is an accepted run, so that of what writing a line refuses only 8 is left.
+use borrow.Author.Needs.{needs}
+use mathlib.Core.Path.{_≡_}
+use Rattle.refusals.proofs.Replies.{number-accepted, number-refused}
+use Rattle.lanes.specs.Lane.{laneRefusal}
+use Rattle.lanes.proofs.Promises.{write-lane-refused, write-lane-written}
+use Rattle.lanes.proofs.write_lane.Statement.{statement}
+use Rattle.lanes.proofs.write_lane.Tie as tie
+
+lane-checked-requires : tie.Need-lane-checked-requires
+lane-checked-requires c κs = search needs
+
+enum-known-verdict : tie.Need-enum-known-verdict
+enum-known-verdict c = search needs
+
+returns : tie.Need-returns
+returns c =
+    let verdict = c .before .verdict .given in
+    write-lane-refused _ _ _ _ (verdict .0 .0) (number-refused (c .before .before .before .lane-checked .ensures) (verdict .1))
+
+enum-told : tie.Need-enum-told
+enum-told c = search needs
+
+-- what holds past the check
+accepted : (c : tie.After-enum-told) → let given = c .before .before .before .before .args in
+    laneRefusal (given .run) (given .lanes) (given .lane) ≡ 0
+accepted c = number-accepted (c .before .before .lane-checked .ensures) (c .enum-told .given .1)
+
+lane-of-requires : tie.Need-lane-of-requires
+lane-of-requires c κs = accepted c
+
+write-line-requires : tie.Need-write-line-requires
+write-line-requires c κs = search needs
+
+same-length : tie.Need-same-length
+same-length c = search needs
+
+returns-2 : tie.Need-returns-2
+returns-2 c =
+    let written = c .before .before in
+    let made = written .before .before in
+    write-lane-written _ _ _ (accepted (made .before)) (made .lane-of .ensures) (written .write-line .ensures)
+
+pub write-lane-spec : {M : Type 1} → statement M
+write-lane-spec =
+    tie.close
+    (tie.spec
+    lane-checked-requires
+    enum-known-verdict
+    returns
+    enum-told
+    lane-of-requires
+    write-line-requires
+    same-length
+    returns-2)

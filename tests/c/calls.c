@@ -91,26 +91,39 @@ static void print(int count, ...)
     va_end(list);
 }
 
-/* The whole buffer is compared with what printf makes of an accepted run, or with what it was. */
-static np_value write_line(uint64_t lent)
-{
-    uint8_t buffer[NUMBERS], wanted[NUMBERS];
-    char line[NP_LINE_MAX + 21];
-    np_generator g = run.generator;
-    np_value v;
+/* A buffer for a line, of which the first bytes are lent. */
+static uint8_t written[NUMBERS];
 
+static uint8_t *lend(uint64_t lent)
+{
     if (lent > NUMBERS)
         fail("a buffer that is too long");
-    memset(buffer, 165, sizeof buffer);
+    memset(written, 165, sizeof written);
+    return lent == 0 ? NULL : written;
+}
+
+/* The whole buffer is compared with what printf makes of the run whose line is written, or with what it was. */
+static void try_written(np_value v, np_run r)
+{
+    uint8_t wanted[NUMBERS];
+    char line[NP_LINE_MAX + 21];
+    np_generator g = r.generator;
+
     memset(wanted, 165, sizeof wanted);
-    v = np_write_line(run, lent == 0 ? NULL : buffer, (size_t)lent);
     if (v.refusal == 0) {
         snprintf(line, sizeof line, "%" PRIu64 ",%" PRIu64 ",%" PRIu64 ",%" PRIu64 ",%" PRIu64 ",%" PRIu64 "\n",
-                 g.width, g.multiplier, g.increment, g.seed, run.first, run.count);
+                 g.width, g.multiplier, g.increment, g.seed, r.first, r.count);
         memcpy(wanted, line, strlen(line));
     }
-    if (memcmp(buffer, wanted, sizeof buffer) != 0)
+    if (memcmp(written, wanted, sizeof written) != 0)
         fail("a buffer with other bytes");
+}
+
+static np_value write_line(uint64_t lent)
+{
+    np_value v = np_write_line(run, lend(lent), (size_t)lent);
+
+    try_written(v, run);
     return v;
 }
 
@@ -241,6 +254,54 @@ static np_fix_reply fix_at(uint64_t fix)
     return f;
 }
 
+/* What a run shows at a position of it. */
+static uint64_t shown_at(np_run r, uint64_t position)
+{
+    uint64_t shown = 0;
+
+    if (np_remake(r, position, &shown, 1).value != 1)
+        fail("a position that is not on its run");
+    return shown;
+}
+
+/* Position q of the lane and position lane + q * lanes of the run show the same. */
+static void try_position(np_run r, uint64_t q, uint64_t lanes, uint64_t lane)
+{
+    if (shown_at(r, q) != shown_at(run, lane + q * lanes))
+        fail("a lane that shows other numbers than its run");
+}
+
+/* Tried at the start of the lane, within it and at its end, which is that of the run. */
+static np_run_reply lane_of(uint64_t lanes, uint64_t lane)
+{
+    np_run_reply r = np_lane(run, lanes, lane);
+    uint64_t last = r.run.count - 1;
+
+    if (r.refusal != 0)
+        return r;
+    try_position(r.run, 0, lanes, lane);
+    try_position(r.run, last / 2, lanes, lane);
+    try_position(r.run, last, lanes, lane);
+    if (run.count - (lane + last * lanes) > lanes)
+        fail("a lane that ends before its run");
+    return r;
+}
+
+/* The line is that of the run that np_lane gives, and reads as it. */
+static np_value write_lane(uint64_t lanes, uint64_t lane, uint64_t lent)
+{
+    np_value v = np_write_lane(run, lanes, lane, lend(lent), (size_t)lent);
+    np_run_reply given = np_lane(run, lanes, lane), read;
+
+    try_written(v, given.run);
+    if (v.refusal == 0) {
+        read = np_read_line(written, (size_t)v.value);
+        if (memcmp(&read, &given, sizeof read) != 0)
+            fail("a lane's line that reads as another run");
+    }
+    return v;
+}
+
 /* A reply. None has padding, so that replies are the same if their bytes are. */
 typedef union {
     np_value value;
@@ -280,6 +341,8 @@ static size_t answer(int letter, reply *r)
     case 'M': r->remade = remake(numbers[6], numbers[7]); return sizeof r->remade;
     case 'K': r->played = play(); return sizeof r->played;
     case 'D': r->fix = fix_at(numbers[6]); return sizeof r->fix;
+    case 'J': r->run = lane_of(numbers[6], numbers[7]); return sizeof r->run;
+    case 'T': r->value = write_lane(numbers[6], numbers[7], numbers[8]); return sizeof r->value;
     case 'R': r->run = np_read_line(bytes, length); return sizeof r->run;
     case 'L': r->part = np_line(bytes, length, numbers[0]); return sizeof r->part;
     case 'F': r->lookup = np_lookup(bytes, length, numbers[0]); return sizeof r->lookup;
@@ -389,6 +452,7 @@ static void print_reply(int letter, const reply *r)
     case 'M': print_remade(r->remade); break;
     case 'K': print_played(r->played); break;
     case 'D': print_fix(r->fix); break;
+    case 'J': print_run(r->run); break;
     case 'R': print_run(r->run); break;
     case 'L': print_part(r->part); break;
     case 'F': print_lookup(r->lookup); break;
@@ -491,7 +555,7 @@ static void try_lengths(size_t more, uint64_t refusal, uint64_t line)
     try_refused(buffer, more + 13, refusal, line);
     if (np_read_line(buffer, more + 13).refusal != NP_REFUSED_MALFORMED_LINE)
         fail("a line is read with what stands behind it");
-    if (np_write_line(r, buffer, more + 5).refusal != 0)
+    if (np_write_line(r, buffer, more + 5).refusal != 0 || np_write_lane(r, 16, 15, buffer, more + 5).refusal != 0)
         fail("a long buffer is refused");
     if (np_remake(r, 0, values, more + 1).value != more + 1)
         fail("a long buffer is not filled");
@@ -564,8 +628,66 @@ static void try_fixes(void)
         fail("a fix is refused otherwise");
 }
 
+/* The numbers 3, 0, 5, 2, 7, 4, 1, 6 of width 3 in three lanes, as anyone would write them; 15 comes before 8. */
+static void try_lanes(void)
+{
+    static const np_run_reply lanes[3] = {
+        {0, {{3, 1, 7, 3}, 0, 3}}, {0, {{3, 1, 7, 0}, 0, 3}}, {0, {{3, 1, 7, 5}, 0, 2}}};
+    np_run r = {{3, 1, 5, 3}, 0, 8}, at_width_0 = {{0, 16807, 0, 1}, 0, 8};
+    uint64_t lane;
+
+    for (lane = 0; lane < 3; lane++) {
+        np_run_reply given = np_lane(r, 3, lane);
+
+        if (memcmp(&given, &lanes[lane], sizeof given) != 0)
+            fail("a lane is made otherwise");
+    }
+    if (np_lane(r, 3, 3).refusal != NP_REFUSED_LANES_OUT_OF_RANGE
+        || np_lane(r, 9, 0).refusal != NP_REFUSED_LANES_OUT_OF_RANGE
+        || np_lane(at_width_0, 3, 0).refusal != NP_REFUSED_LANES_OUT_OF_RANGE
+        || np_write_lane(r, 3, 3, NULL, 0).refusal != NP_REFUSED_LANES_OUT_OF_RANGE
+        || np_write_lane(r, 3, 2, NULL, 0).refusal != NP_REFUSED_BUFFER_TOO_SHORT)
+        fail("a lane is refused otherwise");
+}
+
+/* An archive of all lanes of a run, which shows no number twice: each is found in its lane, at its place. */
+static void try_archive_of_lanes(uint64_t lanes)
+{
+    uint8_t archive[16 * NP_LINE_MAX];
+    np_run r = {{10, 5, 3, 1}, 700, 100};
+    np_summary_reply sum;
+    uint64_t lane, position;
+    size_t used = 0;
+
+    for (lane = 0; lane < lanes; lane++)
+        used += (size_t)np_write_lane(r, lanes, lane, archive + used, sizeof archive - used).value;
+    sum = np_summary(archive, used);
+    if (sum.refusal != 0 || sum.line_count != lanes || sum.total != r.count)
+        fail("the lanes of a run are summed up otherwise");
+    for (position = 0; position < r.count; position++) {
+        np_lookup_reply f = np_lookup(archive, used, shown_at(r, position));
+
+        if (f.found != 1 || f.line != position % lanes + 1 || f.position != position / lanes)
+            fail("a number of a run is found elsewhere in its lanes");
+    }
+}
+
+/* Every refusal has a text of its own, and the next number none. */
+static void try_texts(void)
+{
+    uint64_t refusal, other;
+
+    for (refusal = 0; refusal <= NP_REFUSED_LANES_OUT_OF_RANGE + 1; refusal++)
+        for (other = 0; other < refusal; other++)
+            if (strcmp(np_refusal_text(refusal), np_refusal_text(other)) == 0)
+                fail("two refusals with one text");
+    if (strcmp(np_refusal_text(NP_REFUSED_LANES_OUT_OF_RANGE + 1), np_refusal_text(UINT64_MAX)) != 0)
+        fail("a text of no refusal");
+}
+
 int main(void)
 {
+    uint64_t lanes;
     int letter;
     reply r, again;
 
@@ -579,6 +701,10 @@ int main(void)
     try_open(0xA5);
     try_open(0xFF);
     try_fixes();
+    try_lanes();
+    for (lanes = 1; lanes <= 16; lanes++)
+        try_archive_of_lanes(lanes);
+    try_texts();
     while ((letter = next_call()) != 0) {
         size_t size = answer_over(0xA5, letter, &r);
 

@@ -53,6 +53,8 @@ CALLS = {
     "np_player_return": (c_uint64, POINTER(Player), c_uint64),
     "np_player_show": (Value, POINTER(Player)),
     "np_fix_at": (FixReply, Run, c_uint64),
+    "np_lane": (RunReply, Run, c_uint64, c_uint64),
+    "np_write_lane": (Value, Run, c_uint64, c_uint64, POINTER(c_uint8), c_size_t),
 }
 
 
@@ -140,6 +142,23 @@ def try_calls(library):
     assert fix(Run(g, 100, 8), 4) == fix(Run(g, 100, 8), 2**63) == "(12, 0.0, 0.0)"
     assert fix(Run(prime, 0, 8), 0) == fix(Run(prime, 0, 8), 4) == "(14, 0.0, 0.0)"
 
+    parted, none = Run(g, 100, 8), (0,) * 6
+    assert call("np_lane", parted, 3, 0) == (0, 10, 1003, 439, 49, 0, 3)
+    assert call("np_lane", parted, 3, 2) == (0, 10, 1003, 439, 821, 0, 2)
+    assert call("np_lane", Run(Generator(64, 1, 1, 0), 0, 2**64 - 1), 16, 15) == (0, 64, 1, 16, 15, 0, 2**60 - 1)
+    assert call("np_lane", parted, 3, 3) == call("np_lane", parted, 3, 2**32) == (15, *none)
+    assert call("np_lane", parted, 9, 0) == call("np_lane", parted, 2**32 + 3, 0) == (15, *none)
+    assert call("np_lane", Run(prime, 0, 8), 3, 0) == (15, *none)
+    assert call("np_lane", Run(g, 100, 0), 3, 3) == (5, *none)
+    lane, unwritten = b"10,1003,439,742,0,3\n", b"\xa5" * 107
+    buffer = (c_uint8 * 107)(*unwritten)
+    assert call("np_write_lane", parted, 3, 3, buffer, len(buffer)) == (15, 0)
+    assert call("np_write_lane", parted, 3, 3, None, 0) == (15, 0)
+    assert call("np_write_lane", parted, 3, 1, buffer, len(lane) - 1) == (8, 0)
+    assert bytes(buffer) == unwritten
+    assert call("np_write_lane", parted, 3, 1, buffer, len(buffer)) == (0, len(lane))
+    assert bytes(buffer) == lane.ljust(len(buffer), b"\xa5")
+
     # Lengths of which 32 bits are those of a line, and of less: a file that takes no room but for its first bytes.
     with tempfile.TemporaryFile() as file:
         file.truncate(2**32 + len(line))
@@ -150,6 +169,7 @@ def try_calls(library):
         assert call("np_line", long, len(long), 1) == (0, 0)
         assert call("np_read_line", long, len(long)) == (2, 0, 0, 0, 0, 0, 0)
         assert call("np_write_line", run, room, 2**32 + 5) == (0, len(line))
+        assert call("np_write_lane", parted, 3, 1, room, 2**32 + 5) == (0, len(lane))
 
     assert calls == set(CALLS)
     print(f"shared library: {len(calls)} calls from Python")

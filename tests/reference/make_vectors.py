@@ -20,6 +20,8 @@ The file stdin has one call a line, as decimal numbers separated by commas behin
     M  remake                the six numbers of a run, position, lent            refusal, count, 5 numbers
     K  player (keeps place)  a record, the six numbers of a run, 1 to 8 calls    refusal, value, the record
     D  fix (two deviates)    the six numbers of a run, fix                       refusal, bits of east, bits of north
+    J  lane                  the six numbers of a run, lanes, lane               refusal, the six numbers
+    T  write lane            as J, buffer's length                               refusal, length
 
 The file stdout has the reply to each, the numbers on the right. No call has more than 250 numbers.
 G's backward is 1 if steps lead back, and else 0, so that all fields are plain numbers.
@@ -86,6 +88,8 @@ REPLY = {
     "M": ref.remake,
     "K": player_reply,
     "D": ref.fix_at,
+    "J": ref.lane,
+    "T": ref.write_lane,
 }
 
 
@@ -1002,7 +1006,7 @@ def each_beyond(calls):
     also as lines. The last argument of some calls is no number, or how much is lent, for which there is little room."""
     asked, told = set(), set()
     for code, args in calls:
-        for place, more in product(range(len(args) - (code in "LFWM")), BEYOND):
+        for place, more in product(range(len(args) - (code in "LFWMT")), BEYOND):
             larger, lower = ((*args[:place], n, *args[place + 1 :]) for n in (args[place] + more, args[place] % more))
             asked.add((code, place, more))
             if REPLY[code](*larger) != REPLY[code](*lower):
@@ -1343,11 +1347,118 @@ def fix_calls():
     yield from each_beyond(plain_fixes())
 
 
+# For the lanes.
+
+# Short; of even multiplier; long, and far on in its sequence.
+PARTED_RUNS = (4, 5, 3, 1, 0, 16), (7, 6, 1, 1, 0, 25), (*WIDE[0], 2**63 + 5, 2**62 + 7)
+
+
+def worked_lanes():
+    """Document 01's run in up to nine lanes, with one lane more than there are; every lane of these runs."""
+    for lanes in range(10):
+        for lane in range(lanes + 1):
+            yield *SHOWN_RUN, lanes, lane
+    for run, lanes in product(PARTED_RUNS, range(1, 17)):
+        for lane in range(lanes):
+            yield *run, lanes, lane
+
+
+def lanes_of_counts():
+    """For each number of lanes, counts about it, its double and its largest multiple, from the start of a sequence or
+    at its far end: the first lane, the last, and both sides of where lanes begin to have one position less."""
+    for lanes, more in product(range(1, 17), (-1, 0, 1)):
+        for count in (lanes + more, 2 * lanes + more, min(TOP - TOP % lanes + more, TOP)):
+            for lane in sorted({0, max(count % lanes - 1, 0), count % lanes, lanes - 1}):
+                yield *pick((*WIDE, *PERIODS)), pick((0, TOP - count)), count, lanes, lane
+
+
+def lanes_of_each_width():
+    """Of every kind of multiplier."""
+    for g in (*generators(), *WIDE):
+        lanes = 1 + below(16)
+        count = lanes + pick((0, below(3), below(100), 2 ** below(63), below(2**63)))
+        first = pick((0, 1, below(100), below(TOP - count), TOP - count))
+        yield *g, first, count, lanes, below(lanes)
+
+
+def equal_lanes():
+    """Numbers that stay, that come in turn, and that come to rest: some lanes of each are the same run."""
+    for g, lanes in (((64, 1, 0, 9), 3), ((4, 15, 0, 1), 4), ((4, 0, 9, 4), 4), ((64, 2**32, 5, 9), 5)):
+        parted = [(*g, 0, 20 * lanes, lanes, lane) for lane in range(lanes)]
+        assert len({ref.lane(*numbers) for numbers in parted}) < lanes
+        yield from parted
+
+
+def refused_lanes():
+    """Lanes and a lane about what is accepted, by the run's count. At width 0 any lanes."""
+    for count in (1, 15, 16, 17, TOP):
+        for lanes in (0, 1, 2, 15, 16, 17, 18, TOP):
+            for lane in sorted({0, max(lanes - 1, 0), lanes, min(lanes + 1, TOP), TOP}):
+                yield 4, 5, 3, 1, 0, count, lanes, lane
+    for lanes in range(18):
+        yield *prime(1), 0, pick((16, TOP)), lanes, max(lanes - 1, 0)
+
+
+def refused_runs_with_lanes():
+    """For the width or an operand beside lanes that would be accepted or not, alone and with a refused count; for a run
+    that goes too far."""
+    for width in REFUSED_WIDTHS:
+        yield width, 0, 0, 1, 0, 8, 1, 0
+        yield width, TOP, TOP, TOP, TOP, 0, TOP, TOP
+    wrong = [(*SHOWN_RUN[:at], 1024, *SHOWN_RUN[at + 1 : 4]) for at in (1, 2, 3)]
+    for g, count, lanes in product((*wrong, prime(0), prime(PRIME)), (8, 0), (8, 9)):
+        yield *g, 100, count, lanes, 7
+    for first, count in ((TOP - 7, 8), (TOP, 1), (TOP, TOP), (1, TOP)):
+        for g, lanes in product((SHOWN_RUN[:4], prime(1)), (1, 17)):
+            yield *g, first, count, lanes, 0
+
+
+def refusals_in_their_order():
+    """A width, an operand, a first index, a lane and a buffer's length, each accepted and refused beside any others."""
+    narrow, at_width_0 = product((10, 65), (371,), (995,), (73, 1024)), product((0,), (16807,), (0,), (1, 0))
+    for g, first, lane, length in product((*narrow, *at_width_0), (100, TOP), (2, 3), (107, 11)):
+        yield "J", (*g, first, 8, 3, lane)
+        yield "T", (*g, first, 8, 3, lane, length)
+
+
+def lengths_of_lanes(numbers):
+    """None, one less than the lane's line takes, as much, one more, and many. A refused lane's are those of a line of
+    zeros, and no line is shorter."""
+    length = len(ref.line_of(ref.lane(*numbers)[1:]))
+    return 0, length - 1, length, length + 1, 107
+
+
+# The longest line of a lane, the shortest, one of document 01's run, and one more lane than it has positions.
+LANES_TO_WRITE = (64, TOP, TOP, TOP, 0, TOP, 1, 0), (1, 0, 0, 0, 0, 2, 2, 1), (*SHOWN_RUN, 3, 1), (*SHOWN_RUN, 9, 1)
+
+
+def plain_lanes():
+    """At a narrow width, where larger numbers are refused; at width 64, where they are not."""
+    for g in ((4, 5, 3, 1), (64, 1, 1, 0)):
+        yield "J", (*g, 0, 16, 3, 1)
+        yield "T", (*g, 0, 16, 3, 1, 120)
+
+
+def lane_calls():
+    """One lane of three is also written."""
+    accepted = worked_lanes, lanes_of_counts, lanes_of_each_width, equal_lanes
+    for part in (*accepted, refused_lanes, refused_runs_with_lanes):
+        for numbers in part():
+            yield "J", numbers
+            if below(3) == 0:
+                yield "T", (*numbers, pick(lengths_of_lanes(numbers)))
+    yield from refusals_in_their_order()
+    for numbers in LANES_TO_WRITE:
+        yield "J", numbers
+        yield from (("T", (*numbers, length)) for length in (*lengths_of_lanes(numbers), 256))
+    yield from each_beyond(plain_lanes())
+
+
 def all_calls():
     refused = refused_generators, refused_runs, one_way, refused_archives
     accepted = long_sequences, wide_calls, printed_tables, valid_calls, reading_calls, archive_calls, remaking_calls
     later = gap_calls, places_calls, variety_calls, prime_calls, summary_calls, twin_calls, numbers_beyond, player_calls
-    parts = bounds, *refused, *accepted, *later, fix_calls
+    parts = bounds, *refused, *accepted, *later, fix_calls, lane_calls
     return dict.fromkeys((code, tuple(args)) for part in parts for code, args in part())
 
 

@@ -664,6 +664,74 @@ pub fn fix_at(run: Run, fix: u64) -> Result<Fix, Refusal> {
     Refusal::of(refusal).map(|()| fix)
 }
 
+/// One run for a row of 1 to 16 watches: lane 0, 1 and so on of so many lanes is the run of positions `lane`,
+/// `lane` + `lanes`, `lane` + 2 × `lanes` and so on of the given one.
+///
+/// It has the same width, the multiplier and the increment of `lanes` steps, element `first` + `lane` for its seed,
+/// first index 0, and as many positions as fall to the lane: position q of it shows what position `lane` + q ×
+/// `lanes` of the run shows. It is an accepted run. There are 1 to 16 lanes, and no more than the run has positions;
+/// width 0 has none.
+///
+/// ```
+/// use noonpasture::{lane, remake, Refusal, Run};
+///
+/// // 49, 742, 821, 434, 217, 606, 541, 1002.
+/// let run = Run::from([10, 371, 995, 73, 100, 8]);
+/// let mut values = [0; 3];
+/// assert_eq!(lane(run, 3, 0), Ok(Run::from([10, 1003, 439, 49, 0, 3])));
+/// remake(lane(run, 3, 0)?, 0, &mut values)?;
+/// assert_eq!(values, [49, 434, 541]);
+/// remake(lane(run, 3, 1)?, 0, &mut values)?;
+/// assert_eq!(values, [742, 217, 1002]);
+/// assert_eq!(lane(run, 3, 2), Ok(Run::from([10, 1003, 439, 821, 0, 2])));
+/// assert_eq!(lane(run, 3, 3), Err(Refusal::LanesOutOfRange));
+///
+/// assert_eq!(lane(run, 1, 0), Ok(Run::from([10, 371, 995, 49, 0, 8])));
+/// assert_eq!(lane(run, 8, 7)?.count, 1);
+/// assert_eq!(lane(run, 9, 0), Err(Refusal::LanesOutOfRange));
+/// assert_eq!(lane(run, 0, 0), Err(Refusal::LanesOutOfRange));
+/// let long = Run { count: 1000, ..run };
+/// assert_eq!(lane(long, 16, 15)?.count, 62);
+/// assert_eq!(lane(long, 17, 0), Err(Refusal::LanesOutOfRange));
+///
+/// // 9 for ever: both lanes are the same run.
+/// let still = Run::from([4, 1, 0, 9, 0, 6]);
+/// assert_eq!(lane(still, 2, 0), lane(still, 2, 1));
+///
+/// let prime = Run::from([0, 16807, 0, 1, 0, 8]);
+/// assert_eq!(lane(prime, 1, 0), Err(Refusal::LanesOutOfRange));
+/// assert_eq!(lane(Run { count: 0, ..run }, 0, 0), Err(Refusal::RunOutOfRange));
+/// # Ok::<(), Refusal>(())
+/// ```
+#[inline]
+pub fn lane(run: Run, lanes: u64, lane: u64) -> Result<Run, Refusal> {
+    let raw::RunReply { refusal, run } = raw::lane(run, lanes, lane);
+    Refusal::of(refusal).map(|()| run)
+}
+
+/// Writes the line of that [`lane`] as [`write_line`] does, and gives its length. Lanes that there are not are
+/// refused before a buffer that is shorter than the line.
+///
+/// ```
+/// use noonpasture::{lane, read_line, write_lane, Refusal, Run, LINE_MAX};
+///
+/// let run = Run::from([10, 371, 995, 73, 100, 8]);
+/// let mut buffer = [b'.'; LINE_MAX];
+/// let length = write_lane(run, 3, 2, &mut buffer)?;
+/// assert_eq!(&buffer[..length], b"10,1003,439,821,0,2\n");
+/// assert_eq!(buffer[length], b'.');
+/// assert_eq!(read_line(&buffer[..length]), lane(run, 3, 2));
+///
+/// assert_eq!(write_lane(run, 3, 0, &mut buffer[..18]), Err(Refusal::BufferTooShort));
+/// assert_eq!(write_lane(run, 3, 3, &mut []), Err(Refusal::LanesOutOfRange));
+/// assert_eq!(&buffer[..length], b"10,1003,439,821,0,2\n");
+/// # Ok::<(), Refusal>(())
+/// ```
+#[inline]
+pub fn write_lane(run: Run, lanes: u64, lane: u64, buffer: &mut [u8]) -> Result<usize, Refusal> {
+    value(raw::write_lane(run, lanes, lane, buffer)).map(|length| length as usize)
+}
+
 /// The examples of the repository's README.
 #[cfg(doctest)]
 #[doc = include_str!("../../../README.md")]

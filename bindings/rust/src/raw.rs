@@ -134,6 +134,8 @@ mod foreign {
         pub fn np_player_return(player: *mut Player, mark: u64) -> u64;
         pub fn np_player_show(player: *const Player) -> Value;
         pub fn np_fix_at(run: Run, fix: u64) -> FixReply;
+        pub fn np_lane(run: Run, lanes: u64, lane: u64) -> RunReply;
+        pub fn np_write_lane(run: Run, lanes: u64, lane: u64, buffer: *mut u8, length: usize) -> Value;
     }
 }
 
@@ -243,4 +245,14 @@ pub fn player_show(player: &Player) -> Value {
 #[inline]
 pub fn fix_at(run: Run, fix: u64) -> FixReply {
     unsafe { foreign::np_fix_at(run, fix) }
+}
+
+#[inline]
+pub fn lane(run: Run, lanes: u64, lane: u64) -> RunReply {
+    unsafe { foreign::np_lane(run, lanes, lane) }
+}
+
+#[inline]
+pub fn write_lane(run: Run, lanes: u64, lane: u64, buffer: &mut [u8]) -> Value {
+    unsafe { foreign::np_write_lane(run, lanes, lane, buffer.as_mut_ptr(), buffer.len()) }
 }

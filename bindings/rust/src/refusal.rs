@@ -6,7 +6,8 @@ use std::fmt::{self, Display, Formatter};
 /// Why a call is refused: the lowest that applies; of an archive `ArchiveTooLong`, else the reason of
 /// its first refused line, `DuplicateLine` the last of these, else `TotalOverflow`; of a return to a mark
 /// `PositionOutOfRange` for the position held, else `BookmarkInvalid`, else `PositionOutOfRange` for the
-/// mark's; of a fix `Inexact` before `PositionOutOfRange`. The numbers are those of `include/noonpasture.h`.
+/// mark's; of a fix `Inexact` before `PositionOutOfRange`; of a lane's line `LanesOutOfRange` before
+/// `BufferTooShort`. The numbers are those of `include/noonpasture.h`.
 #[derive(Clone, Copy, Debug, PartialEq, Eq, Hash)]
 #[non_exhaustive]
 pub enum Refusal {
@@ -24,11 +25,12 @@ pub enum Refusal {
     PositionOutOfRange,
     BookmarkInvalid,
     Inexact,
+    LanesOutOfRange,
 }
 
 impl Refusal {
     /// All of them, in the order of their numbers, which begin with 1.
-    pub const ALL: [Refusal; 14] = [
+    pub const ALL: [Refusal; 15] = [
         Refusal::ArchiveTooLong,
         Refusal::MalformedLine,
         Refusal::WidthOutOfRange,
@@ -43,6 +45,7 @@ impl Refusal {
         Refusal::PositionOutOfRange,
         Refusal::BookmarkInvalid,
         Refusal::Inexact,
+        Refusal::LanesOutOfRange,
     ];
 
     /// ```
@@ -83,6 +86,10 @@ impl Display for Refusal {
             Refusal::PositionOutOfRange => "the position is not on the run",
             Refusal::BookmarkInvalid => "the mark is above 3, or is returned to and unset",
             Refusal::Inexact => "a fix at width 0 would be inexact",
+            Refusal::LanesOutOfRange => {
+                "the lanes are none, more than 16 or more than the count, the lane is none of them, \
+                 or the width is 0"
+            }
         })
     }
 }

@@ -22,6 +22,7 @@ pub const DUPLICATE_LINE: u64 = 11;
 pub const POSITION_OUT_OF_RANGE: u64 = 12;
 pub const BOOKMARK_INVALID: u64 = 13;
 pub const INEXACT: u64 = 14;
+pub const LANES_OUT_OF_RANGE: u64 = 15;
 
 pub const ARCHIVE_LIMIT: usize = 65_536;
 

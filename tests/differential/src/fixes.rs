@@ -3,7 +3,7 @@
 use crate::calls::*;
 use crate::random::Random;
 use crate::trail::low;
-use crate::{formula, model, prime, samples};
+use crate::{formula, model, samples};
 
 /// The arguments of one call.
 pub type Call = (Run, u64);
@@ -201,37 +201,11 @@ fn ends(count: u64) -> Vec<u64> {
     fixes
 }
 
-/// Accepted generators of every width, and at some widths refused ones. Those of width 0 too, of either sort.
-fn generators(r: &mut Random) -> Vec<Generator> {
-    let mut generators: Vec<Generator> =
-        (1..=64).map(|width| samples::accepted_generator(r, width)).collect();
-    for width in [1, 10, 53, 63] {
-        let (g, above) = (samples::accepted_generator(r, width), 1 << width);
-        generators.extend([
-            Generator { multiplier: above, ..g },
-            Generator { increment: above, ..g },
-            Generator { seed: above, ..g },
-        ]);
-        generators.extend([65, 128, 256 + width, u64::MAX].map(|width| Generator { width, ..g }));
-    }
-    for seed in [1, prime::MULTIPLIER, prime::PERIOD, 0, prime::MODULUS] {
-        let g = prime::generator(seed);
-        let (multiplier, increment) = (prime::MULTIPLIER + 1, prime::MODULUS);
-        generators.extend([
-            g,
-            Generator { multiplier, ..g },
-            Generator { increment, ..g },
-            Generator { width: 65, ..g },
-        ]);
-    }
-    generators
-}
-
 /// With every count from index 0 on, from the largest first index that there may be, and from one more; and with
 /// none.
 pub fn chosen_ends(r: &mut Random) -> Vec<Call> {
     let mut calls = Vec::new();
-    for generator in generators(r) {
+    for generator in samples::chosen_generators(r) {
         for count in COUNTS {
             for first in [0, u64::MAX - count, (u64::MAX - count).saturating_add(1)] {
                 calls.extend(ends(count).into_iter().map(|fix| (Run { generator, first, count }, fix)));

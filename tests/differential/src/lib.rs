@@ -4,6 +4,7 @@ pub mod archives;
 pub mod calls;
 pub mod fixes;
 pub mod formula;
+pub mod lanes;
 pub mod model;
 pub mod peers;
 pub mod players;

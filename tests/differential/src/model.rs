@@ -1,6 +1,6 @@
 //! Every call of the header once more, independently: sequences by stepping where that is short and by
 //! formula elsewhere, at width 0 by powers and baby steps, lines by splitting the bytes, equal lines by a set
-//! of the earlier ones; the player in `player`, the fixes in `fix`.
+//! of the earlier ones; the player in `player`, the fixes in `fix`, the lanes in `lane`.
 
 use std::collections::HashSet;
 
@@ -9,6 +9,7 @@ use crate::trail::{low, step, Trail};
 use crate::{formula, prime};
 
 pub mod fix;
+pub mod lane;
 pub mod player;
 
 /// Up to this width odd multipliers are stepped through; even ones always are.
@@ -423,6 +424,11 @@ mod tests {
         vec![v.refusal, v.value]
     }
 
+    fn run_reply(r: RunReply) -> Vec<u64> {
+        let numbers: [u64; 6] = r.run.into();
+        [&[r.refusal], numbers.as_slice()].concat()
+    }
+
     fn reply_on_generator(code: &str, n: &[u64]) -> Vec<u64> {
         let g = generator(n);
         match code {
@@ -487,11 +493,7 @@ mod tests {
                 let r = remake(run(n), n[6], &mut values[..n[7] as usize]);
                 [&[r.refusal, r.value], values.as_slice()].concat()
             }
-            "R" => {
-                let r = read_line(&bytes(0));
-                let numbers: [u64; 6] = r.run.into();
-                [&[r.refusal], numbers.as_slice()].concat()
-            }
+            "R" => run_reply(read_line(&bytes(0))),
             "L" => {
                 let r = line(&bytes(1), n[0]);
                 vec![r.start, r.length]
@@ -509,6 +511,8 @@ mod tests {
                 let r = fix::fix_at(run(n), n[6]);
                 vec![r.refusal, r.east, r.north]
             }
+            "J" => run_reply(lane::lane(run(n), n[6], n[7])),
+            "T" => value(lane::write_lane(run(n), n[6], n[7], &mut vec![0; n[8] as usize])),
             _ => reply_on_generator(code, n),
         }
     }

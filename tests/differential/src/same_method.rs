@@ -1,16 +1,18 @@
 //! The library's own methods in plain Rust, to measure it against: jumps from the lowest bit of the
 //! index up, the search up the bit places, lines in one pass, equal ones by chains of those whose hash
-//! falls into one slot; at width 0 what `prime` has, of the player what `player` has, and of the fixes what `fix`
-//! has.
+//! falls into one slot; at width 0 what `prime` has, of the player what `player` has, of the fixes what `fix`
+//! has, and of the lanes what `lane` has.
 
 use crate::calls::*;
 use crate::prime::PERIOD;
 
 mod fix;
+mod lane;
 mod player;
 mod prime;
 
 pub use fix::*;
+pub use lane::*;
 pub use player::*;
 
 /// The map of some number of steps: times `factor`, plus `summand`, modulo 2^64.

@@ -98,6 +98,31 @@ pub fn prime_generator(r: &mut Random) -> Generator {
     }
 }
 
+/// Accepted generators of every width, and at some widths refused ones. Those of width 0 too, of either sort.
+pub fn chosen_generators(r: &mut Random) -> Vec<Generator> {
+    let mut generators: Vec<Generator> = (1..=64).map(|width| accepted_generator(r, width)).collect();
+    for width in [1, 10, 53, 63] {
+        let (g, above) = (accepted_generator(r, width), 1 << width);
+        generators.extend([
+            Generator { multiplier: above, ..g },
+            Generator { increment: above, ..g },
+            Generator { seed: above, ..g },
+        ]);
+        generators.extend([65, 128, 256 + width, u64::MAX].map(|width| Generator { width, ..g }));
+    }
+    for seed in [1, prime::MULTIPLIER, prime::PERIOD, 0, prime::MODULUS] {
+        let g = prime::generator(seed);
+        let (multiplier, increment) = (prime::MULTIPLIER + 1, prime::MODULUS);
+        generators.extend([
+            g,
+            Generator { multiplier, ..g },
+            Generator { increment, ..g },
+            Generator { width: 65, ..g },
+        ]);
+    }
+    generators
+}
+
 pub fn index(r: &mut Random) -> u64 {
     let choices = [r.word(), r.any(), r.any(), r.below(100), u64::MAX - r.below(100)];
     r.pick(&choices)

@@ -1,13 +1,13 @@
 //! Times the proved library against plain Rust of the same method and against the peers' way, its gap and
-//! index_places against its index, the player's show and its fixes against its element, and long moves of the
-//! player against short ones, in one run, as markdown tables:
+//! index_places against its index, the player's show, its fixes and its lanes against its element, a lane's line
+//! against the lane and the line, and long moves of the player against short ones, in one run, as markdown tables:
 //!
 //!     cargo run --release --bin bench [-- [--plain] [ROWS]]
 //!
 //! Both sides get the same inputs in turn, round by round; a ratio is the median over the rounds.
 //! Buffers are not cleared first. With `--plain` there are no headings, tabs between the fields and
 //! more digits; with ROWS only the rows that begin with this text, as `lookup` or `index, distance`.
-//! Without the features `index-places`, `summary`, `player` and `fix` the rows of these calls are left out,
+//! Without the features `index-places`, `summary`, `player`, `fix` and `lane` the rows of these calls are left out,
 //! without `prime-modulus` those of width 0.
 
 use std::collections::HashSet;
@@ -68,11 +68,16 @@ fn measured_in<I: Copy, R: PartialEq>(
     mut other: impl FnMut(I) -> R,
 ) -> Timing {
     assert!(inputs.iter().all(|&input| library(input) == other(input)), "the two sides differ");
-    let slower = timed(inputs, 1, &mut library).max(timed(inputs, 1, &mut other));
-    let once = slower * inputs.len() as f64;
+    let round = |repeats| (timed(inputs, repeats, &mut library), timed(inputs, repeats, &mut other));
+    timing(rounds, inputs.len(), round)
+}
+
+/// Of rounds that give the time of either side, over all inputs so many times.
+fn timing(rounds: usize, inputs: usize, mut round: impl FnMut(usize) -> (f64, f64)) -> Timing {
+    let (library, other) = round(1);
+    let once = library.max(other) * inputs as f64;
     let repeats = 1 + (ROUND.as_nanos() as f64 / once) as usize;
-    let round = |_| (timed(inputs, repeats, &mut library), timed(inputs, repeats, &mut other));
-    let rounds: Vec<(f64, f64)> = (0..rounds).map(round).collect();
+    let rounds: Vec<(f64, f64)> = (0..rounds).map(|_| round(repeats)).collect();
     Timing {
         library: median(rounds.iter().map(|(library, _)| *library).collect()),
         other: median(rounds.iter().map(|(_, other)| *other).collect()),
@@ -715,6 +720,100 @@ mod fixes {
     }
 }
 
+/// The rows of the lanes. They have random numbers of their own as well.
+#[cfg(feature = "lane")]
+mod lanes {
+    use super::*;
+    use noonpasture_differential::lanes::Call;
+
+    /// A reply's fields, each read by itself, as those of a fix.
+    fn read(RunReply { refusal, run: Run { generator, first, count } }: RunReply) -> RunReply {
+        let generator = Generator {
+            width: black_box(generator.width),
+            multiplier: black_box(generator.multiplier),
+            increment: black_box(generator.increment),
+            seed: black_box(generator.seed),
+        };
+        let run = Run { generator, first: black_box(first), count: black_box(count) };
+        RunReply { refusal: black_box(refusal), run }
+    }
+
+    fn lane(inputs: &[Call]) -> Timing {
+        measured(
+            inputs,
+            |Call { run, lanes, lane }| read(library::lane(run, lanes, lane)),
+            |Call { run, lanes, lane }| read(same_method::lane(run, lanes, lane)),
+        )
+    }
+
+    /// The library's two calls, the element being the seed; that both are accepted is compared.
+    fn lane_and_element(inputs: &[Call]) -> Timing {
+        measured(
+            inputs,
+            |Call { run, lanes, lane }| read(library::lane(run, lanes, lane)).refusal,
+            |Call { run, lane, .. }| {
+                let Value { refusal, value } = library::element(run.generator, run.first + lane);
+                black_box(value);
+                black_box(refusal)
+            },
+        )
+    }
+
+    fn write_lane(inputs: &[Call]) -> Timing {
+        let (mut ours, mut theirs) = ([0; 128], [0; 128]);
+        measured(
+            inputs,
+            |Call { run, lanes, lane }| library::write_lane(run, lanes, lane, &mut ours),
+            |Call { run, lanes, lane }| same_method::write_lane(run, lanes, lane, &mut theirs),
+        )
+    }
+
+    /// The library's calls: the times of giving the lane and of writing its line, each by itself, are added. That as
+    /// many bytes are written is compared.
+    fn write_lane_and_both(inputs: &[Call]) -> Timing {
+        let given = |call: &Call| library::lane(call.run, call.lanes, call.lane).run;
+        let lines: Vec<Run> = inputs.iter().map(given).collect();
+        let (mut ours, mut theirs) = ([0; 128], [0; 128]);
+        let mut write_lane = |Call { run, lanes, lane }| library::write_lane(run, lanes, lane, &mut ours);
+        let mut lane = |Call { run, lanes, lane }| read(library::lane(run, lanes, lane)).refusal;
+        let mut write_line = |line| library::write_line(line, &mut theirs);
+        let mut same = inputs.iter().zip(&lines).map(|(&call, &line)| write_lane(call) == write_line(line));
+        assert!(same.all(|same| same), "the two sides differ");
+        timing(ROUNDS, inputs.len(), |repeats| {
+            let one = timed(inputs, repeats, &mut write_lane);
+            (one, timed(inputs, repeats, &mut lane) + timed(&lines, repeats, &mut write_line))
+        })
+    }
+
+    /// Any lane of a run whose seed is at an index of so many bits.
+    fn at_index(r: &mut Random, width: u64, bits: u64) -> Call {
+        let index = (1 << (bits - 1) | r.bits(bits)).min(u64::MAX - 16);
+        let lanes = 1 + r.below(16);
+        let lane = r.below(lanes);
+        let first = index - lane;
+        let run = Run { generator: full_period_generator(r, width), first, count: u64::MAX - first };
+        Call { run, lanes, lane }
+    }
+
+    pub fn rows(out: &Output) {
+        let r = &mut Random::new(SEED + 8);
+        let sizes = [(64, 8), (64, 16), (64, 32), (64, 64), (32, 8), (32, 16), (32, 32), (32, 64)];
+        let inputs = sizes.map(|(width, bits)| {
+            (format!("width {width}, index of {bits} bits"), several(|_| at_index(r, width, bits)))
+        });
+        out.heading("lane", "Rust");
+        inputs.iter().for_each(|(input, calls)| out.row("lane", input, || lane(calls)));
+        out.heading("lane beside element", "element");
+        inputs.iter().for_each(|(input, calls)| out.row("lane, element", input, || lane_and_element(calls)));
+        out.heading("line of a lane", "Rust");
+        inputs.iter().for_each(|(input, calls)| out.row("write_lane", input, || write_lane(calls)));
+        out.heading("line of a lane beside lane and line", "both");
+        for (input, calls) in &inputs {
+            out.row("write_lane, lane and write_line", input, || write_lane_and_both(calls));
+        }
+    }
+}
+
 fn main() {
     let (flags, words): (Vec<_>, Vec<_>) = env::args().skip(1).partition(|word| word == "--plain");
     let out = Output { plain: !flags.is_empty(), rows: words.join(" ") };
@@ -735,4 +834,6 @@ fn main() {
     player::rows(&out);
     #[cfg(feature = "fix")]
     fixes::rows(&out);
+    #[cfg(feature = "lane")]
+    lanes::rows(&out);
 }

@@ -4,8 +4,9 @@
 //! every changed byte, for equal lines on twins at every place, almost equal lines and lines of one slot, on
 //! numbers whose lower bits are accepted ones, for the player on all short lists of chosen calls and on random
 //! lists, for the fixes bit by bit on all short runs of widths 1 to 3, on chosen numbers at every width and about the
-//! ends of runs, and on random calls, accepted and refused. Ends with status 1 at the first difference, and if an
-//! outcome of the player's calls or of the fixes is not met often.
+//! ends of runs, for the lanes on all those of short runs of widths 1 to 4, remade and laid side by side, on chosen
+//! numbers at every width and about their limits, and on random calls, accepted and refused. Ends with status 1 at the
+//! first difference, and if an outcome of the calls of the player, of the fixes or of the lanes is not met often.
 //!
 //!     cargo run --release --bin differential
 
@@ -16,6 +17,7 @@ use std::time::Instant;
 
 use noonpasture_differential::archives::{lines_with, with_line, ABOUT_TWINS, BAD_LINES};
 use noonpasture_differential::calls::*;
+use noonpasture_differential::lanes::{self, Call};
 use noonpasture_differential::random::Random;
 use noonpasture_differential::samples::MakeRun;
 use noonpasture_differential::{fixes, library, model, players, prime, samples};
@@ -28,6 +30,8 @@ const PRIME_CALLS: u64 = 100_000;
 /// Of all kinds together: about a million openings, which are the fewest.
 const PLAYER_CALLS: u64 = 12_000_000;
 const FIX_CALLS: u64 = 2_000_000;
+/// Of either kind.
+const LANE_CALLS: u64 = 1_000_000;
 const SEED: u64 = 20_260_101;
 
 #[derive(Clone, Copy)]
@@ -54,9 +58,14 @@ enum Kind {
     PlayerReturn,
     PlayerShow,
     FixAt,
+    Lane,
+    LaneAndRun,
+    LanesSideBySide,
+    WriteLane,
+    LineOfLane,
 }
 
-const KINDS: [&str; 22] = [
+const KINDS: [&str; 27] = [
     "element",
     "orbit",
     "index",
@@ -79,14 +88,19 @@ const KINDS: [&str; 22] = [
     "player_return",
     "player_show",
     "fix_at",
+    "lane",
+    "lane and run",
+    "lanes side by side",
+    "write_lane",
+    "write_lane and read_line",
 ];
 
 /// What replies are counted by: an answer, a refusal by its number, or nothing, which is never,
 /// none, the empty part or no number remade.
-const OUTCOMES: [&str; 16] =
-    ["answer", "1", "2", "3", "4", "5", "6", "7", "8", "9", "10", "11", "12", "13", "14", "nothing"];
+const OUTCOMES: [&str; 17] =
+    ["answer", "1", "2", "3", "4", "5", "6", "7", "8", "9", "10", "11", "12", "13", "14", "15", "nothing"];
 const ANSWER: usize = 0;
-const NOTHING: usize = 15;
+const NOTHING: usize = 16;
 
 trait Reply: PartialEq + Debug {
     fn refusal(&self) -> u64;
@@ -244,12 +258,12 @@ impl Tally {
     }
 
     fn print(&self, title: &str) {
-        print!("\n{title:<35}{:>8}", "calls");
-        OUTCOMES.iter().for_each(|outcome| print!("{outcome:>8}"));
+        print!("\n{title:<35}{:>9}", "calls");
+        OUTCOMES.iter().for_each(|outcome| print!("{outcome:>9}"));
         let compared = KINDS.iter().zip(&self.0).filter(|(_, counts)| counts.iter().any(|&count| count > 0));
         for (kind, counts) in compared {
-            print!("\n{kind:<35}{:>8}", counts.iter().sum::<u64>());
-            counts.iter().for_each(|count| print!("{count:>8}"));
+            print!("\n{kind:<35}{:>9}", counts.iter().sum::<u64>());
+            counts.iter().for_each(|count| print!("{count:>9}"));
         }
         println!();
     }
@@ -374,6 +388,52 @@ impl Tally {
                 println!("fix_at gives {deviate:?} for {:?}", (run, fix));
                 std::process::exit(1);
             }
+        }
+    }
+
+    fn lane(&mut self, call: Call) -> RunReply {
+        self.lane_is(call, model::lane::lane(call.run, call.lanes, call.lane))
+    }
+
+    /// Gives the library's reply.
+    fn lane_is(&mut self, call: Call, wanted: RunReply) -> RunReply {
+        let reply = library::lane(call.run, call.lanes, call.lane);
+        self.compare(Kind::Lane, &call, reply, wanted);
+        reply
+    }
+
+    /// Whatever the model says, a position of the lane shows what the run shows there; behind its end, nothing.
+    fn lane_and_run(&mut self, call: Call, lane: Run, position: u64) {
+        let in_run = position.saturating_mul(call.lanes).saturating_add(call.lane);
+        let (mut ours, mut theirs) = ([0], [0]);
+        let shown = library::remake(lane, position, &mut ours);
+        let wanted = library::remake(call.run, in_run, &mut theirs);
+        self.compare(Kind::LaneAndRun, &(call, position), (shown, ours), (wanted, theirs));
+    }
+
+    /// Whatever the model says, the lanes make up the short run: their counts its count, and their positions, each put
+    /// to its place in the run, what the run shows, with no place left out or behind it.
+    fn lanes_side_by_side(&mut self, run: Run, lanes: &[Run]) {
+        let (mut shown, mut wanted) = ([None; ROOM], [None; ROOM]);
+        for (lane, &run) in lanes.iter().enumerate() {
+            remade(run, shown.iter_mut().skip(lane).step_by(lanes.len()));
+        }
+        let count = remade(run, wanted.iter_mut());
+        let total = Value { refusal: 0, value: lanes.iter().map(|lane| lane.count).sum() };
+        self.compare(Kind::LanesSideBySide, &(run, lanes), (total, shown), (count, wanted));
+    }
+
+    /// Lends `length` bytes behind the first ones of `before`; all bytes are compared afterwards. A line that is
+    /// written is read back, and has to be the lane's.
+    fn write_lane(&mut self, call: Call, before: [u8; 160], length: usize) {
+        let Call { run, lanes, lane } = call;
+        let (mut ours, mut theirs) = (before, before);
+        let library = library::write_lane(run, lanes, lane, &mut ours[NOT_LENT..][..length]);
+        let model = model::lane::write_lane(run, lanes, lane, &mut theirs[NOT_LENT..][..length]);
+        self.compare(Kind::WriteLane, &(call, length, before), (library, ours), (model, theirs));
+        if library.refusal == 0 {
+            let line = &ours[NOT_LENT..][..library.value as usize];
+            self.compare(Kind::LineOfLane, &call, library::read_line(line), library::lane(run, lanes, lane));
         }
     }
 }
@@ -639,6 +699,12 @@ fn every_call_on(tally: &mut Tally, g: Generator) {
         tally.write_line(run, [7; 160], 160);
         tally.remake(run, count / 2, [7; 20], 19);
         (0..6).for_each(|fix| tally.fix_at(run, fix));
+        for (lanes, lane) in [(0, 0), (1, 0), (1, 1), (2, 1), (16, 0), (17, 0), (u64::MAX, 0)] {
+            let call = Call { run, lanes, lane };
+            tally.lane(call);
+            tally.write_lane(call, [7; 160], 0);
+            tally.write_lane(call, [7; 160], 128);
+        }
         tally.read_line(&line_of(&run));
         tally.lookup(&[b"0,16807,0,2,0,5\n".to_vec(), line_of(&run)].concat(), 1);
     }
@@ -865,6 +931,99 @@ fn random_fixes(share: u64) -> Tally {
     tally
 }
 
+// Lanes.
+
+/// Positions of a short run, and one more.
+const ROOM: usize = SHORT as usize + 1;
+
+/// Puts the numbers of a short run to these places, as the library remakes them.
+fn remade<'a>(run: Run, places: impl Iterator<Item = &'a mut Option<u64>>) -> Value {
+    let mut numbers = [0; ROOM];
+    let count = library::remake(run, 0, &mut numbers);
+    for (place, &number) in places.zip(&numbers[..count.value as usize]) {
+        *place = Some(number);
+    }
+    count
+}
+
+/// Every lane of 0 to 17, and the one behind them; those that there are, side by side as well.
+fn all_lanes_of(tally: &mut Tally, run: Run) {
+    for lanes in 0..=17 {
+        let dealt = model::lane::dealt(run, lanes);
+        let mut given = |lane: u64| {
+            let wanted = match dealt.get(lane as usize) {
+                Some(&dealt) => accepted(dealt),
+                None => model::lane::lane(run, lanes, lane),
+            };
+            tally.lane_is(Call { run, lanes, lane }, wanted).run
+        };
+        let given: Vec<Run> = (0..=lanes).map(&mut given).collect();
+        if !dealt.is_empty() {
+            tally.lanes_side_by_side(run, &given[..dealt.len()]);
+        }
+    }
+}
+
+/// At widths 1 to 4 those of runs of up to 40 positions.
+fn all_short_lanes(share: u64) -> Tally {
+    let mut tally = Tally::default();
+    each_generator(1..=4, share, |generator| {
+        for first in [0, 1, 5] {
+            (0..=SHORT).for_each(|count| all_lanes_of(&mut tally, Run { generator, first, count }));
+        }
+    });
+    tally
+}
+
+/// So many bytes of a buffer stand before those that are lent.
+const NOT_LENT: usize = 16;
+
+fn exact_length(call: Call) -> usize {
+    line_of(&model::lane::lane(call.run, call.lanes, call.lane).run).len()
+}
+
+/// Each also written: into no bytes, one too few, just enough, and more than any line has.
+fn chosen_lanes(calls: Vec<Call>) -> Tally {
+    let mut tally = Tally::default();
+    let before = std::array::from_fn(|at| at as u8);
+    for call in calls {
+        tally.lane(call);
+        let exact = exact_length(call);
+        for length in [0, exact - 1, exact, 128] {
+            tally.write_lane(call, before, length);
+        }
+    }
+    tally
+}
+
+/// Of an accepted one the last position too, the one behind it, and some other.
+fn random_lanes(share: u64) -> Tally {
+    let mut tally = Tally::default();
+    let mut r = Random::new(SEED + 9 * SHARES + share);
+    for _ in 0..LANE_CALLS / SHARES {
+        let call = lanes::call(&mut r);
+        let RunReply { refusal, run: lane } = tally.lane(call);
+        if refusal == 0 {
+            for position in [lane.count - 1, lane.count, r.below(lane.count)] {
+                tally.lane_and_run(call, lane, position);
+            }
+        }
+    }
+    tally
+}
+
+fn random_lines_of_lanes(share: u64) -> Tally {
+    let mut tally = Tally::default();
+    let mut r = Random::new(SEED + 10 * SHARES + share);
+    for at in 0..LANE_CALLS / SHARES {
+        let call = lanes::call(&mut r);
+        let exact = exact_length(call);
+        let lengths = [0, at as usize % 131, exact - 1, exact, exact + 1];
+        tally.write_lane(call, filling(&mut r), r.pick(&lengths));
+    }
+    tally
+}
+
 // Random calls.
 
 /// Makes the generators of random calls.
@@ -888,14 +1047,18 @@ fn random_generators(r: &mut Random, tally: &mut Tally, make: Make, calls: u64) 
     }
 }
 
+/// What a buffer holds before a line is written.
+fn filling(r: &mut Random) -> [u8; 160] {
+    let filling = r.word().to_le_bytes();
+    std::array::from_fn(|at| filling[at % 8] ^ at as u8)
+}
+
 fn random_lines(r: &mut Random, tally: &mut Tally, make: Make, calls: u64) {
     for call in 0..calls {
         let run = a_run(r, make);
         let exact = line_of(&run).len();
         let lengths = [call as usize % 131, exact, exact - 1];
-        let filling = r.word().to_le_bytes();
-        let before = std::array::from_fn(|at| filling[at % 8] ^ at as u8);
-        tally.write_line(run, before, r.pick(&lengths));
+        tally.write_line(run, filling(r), r.pick(&lengths));
         let run = a_run(r, make);
         tally.read_line(&samples::line(r, run));
     }
@@ -1002,6 +1165,8 @@ fn calls_beyond(tally: &mut Tally, r: &mut Random, more: u64) {
     let places = 1 + r.below(width);
     let run = Run { generator: g, first: r.below(100), count: 1 + r.below(100) };
     let position = r.below(run.count);
+    let lanes = 1 + r.below(run.count.min(16));
+    let call = Call { run, lanes, lane: r.below(lanes) };
     let wider = Run { generator: Generator { width: width + more, ..g }, ..run };
 
     tally.customary_multiplier(width + more);
@@ -1019,6 +1184,12 @@ fn calls_beyond(tally: &mut Tally, r: &mut Random, more: u64) {
     tally.read_line(&line_of(&wider));
     tally.remake(wider, position, [7; 20], 19);
     tally.fix_at(wider, position / 2);
+    let more_lanes = Call { lanes: call.lanes + more, ..call };
+    let later_lane = Call { lane: call.lane + more, ..call };
+    for call in [more_lanes, later_lane, Call { run: wider, ..call }] {
+        tally.lane(call);
+        tally.write_lane(call, [7; 160], 128);
+    }
     let archive = samples::archive(r, samples::mixed_run, 0).bytes;
     (0..4).for_each(|line| tally.line(&archive, line + more));
 }
@@ -1069,5 +1240,14 @@ fn main() {
     let random = shared(random_fixes);
     random.print("fixes, random calls");
     random.met(Kind::FixAt, &[ANSWER, 3, 4, 5, 12, 14], FIX_CALLS / 100);
+    shared(all_short_lanes).print("lanes, short runs, widths 1 to 4");
+    chosen_lanes(lanes::chosen_operands()).print("lanes, chosen numbers");
+    chosen_lanes(lanes::chosen_limits(&mut Random::new(SEED + 8 * SHARES))).print("lanes, about the limits");
+    let random = shared(random_lanes);
+    random.print("lanes, random calls");
+    random.met(Kind::Lane, &[ANSWER, 3, 4, 5, 15], LANE_CALLS / 100);
+    let random = shared(random_lines_of_lanes);
+    random.print("lanes, random lines");
+    random.met(Kind::WriteLane, &[ANSWER, 3, 4, 5, 8, 15], LANE_CALLS / 100);
     println!("\nno difference, {} seconds", start.elapsed().as_secs());
 }

@@ -96,11 +96,7 @@ count-quotient k l j h b = ends-only (record { before = before; after = after })
     after : l ≤ j + (t + 1) * k
     after = omega (arith, lt-div-mul-add {a = l - 1 - j} {b = k} some, b)
 
--- a lane of some position is not empty
-pub count-positive : (k l j : ℕ) → j < k → j < l → 1 ≤ laneCount k l j
-count-positive k l j h b = omega (arith, count-quotient k l j h b)
-
--- nor has it more positions than the run
+-- a lane has no more positions than the run
 pub count-within : (k l j : ℕ) → j < k → j < l → laneCount k l j ≤ l
 count-within k l j h b = omega (arith, count-quotient k l j h b, below)
   where

@@ -19,7 +19,7 @@ use Rattle.runs.specs.Run.{shows, runRefusal}
 use Rattle.lanes.specs.Rule.{stepsFrom, ruleOf}
 use Rattle.lanes.specs.Lane.{laneCount, laneOf, IsLane, Falls, UsesUp}
 use Rattle.lanes.proofs.Conditions.{ValidLane}
-use Rattle.lanes.proofs.Counting.{count-ends, ends-exactly, count-positive, count-within, count-total, place-only, place-of}
+use Rattle.lanes.proofs.Counting.{Ends, count-ends, ends-exactly, count-within, count-total, place-only, place-of}
 use Rattle.lanes.proofs.Rules.{alike, multiplier-below, increment-below, only-rule}
 
 -- What a lane shows.
@@ -55,6 +55,10 @@ module _ {run : Run} {k j : ℕ} (v : ValidLane run k j) where
   on-run : j < run .count
   on-run = omega (arith, v .range .lane, v .range .enough)
 
+  -- its positions are those that are on the run
+  ends : Ends k (run .count) j (laneOf run k j .count)
+  ends = count-ends k (run .count) j (v .range .lane)
+
   below : {x : ℕ} → x < modulus (run .generator) → x < 2 ^ run .generator .width
   below {x} h = subst (λ (m : ℕ). x < m) (modulus-linear (run .generator) (v .linear .kind)) h
 
@@ -77,7 +81,7 @@ module _ {run : Run} {k j : ℕ} (v : ValidLane run k j) where
   lane-accepted = rw (own-accepted, ne-eqb (laneOf run k j .count) 0 nonzero, lt-leb (2 ^ 64) (0 + laneOf run k j .count) room)
     where
       some-positions : 1 ≤ laneOf run k j .count
-      some-positions = count-positive k (run .count) j (v .range .lane) on-run
+      some-positions = ends-exactly ends 0 .1 (omega (arith, on-run))
 
       no-more-positions : laneOf run k j .count ≤ run .count
       no-more-positions = count-within k (run .count) j (v .range .lane) on-run
@@ -94,7 +98,7 @@ module _ {run : Run} {k j : ℕ} (v : ValidLane run k j) where
         accepted = lane-accepted;
         width = refl;
         rule = only-rule (run .generator) k some;
-        positions = ends-exactly (count-ends k (run .count) j (v .range .lane));
+        positions = ends-exactly ends;
         showing = own-shows run k j some;
       }
 

@@ -4,8 +4,8 @@ use Rattle.lanes.proofs.Rules.{rule-is}
 use Rattle.lanes.proofs.split.rule_of.Statement.{statement}
 use Rattle.lanes.proofs.split.rule_of.Tie as tie
 
-jump-requires : tie.Need-jump-requires
-jump-requires c κs = search needs
+map-of-requires : tie.Need-map-of-requires
+map-of-requires c κs = search needs
 
 low-bits-requires : tie.Need-low-bits-requires
 low-bits-requires c κs = search needs
@@ -15,8 +15,8 @@ low-bits-requires-2 c κs = search needs
 
 returns : tie.Need-returns
 returns c =
-    let jumped = c .before .before in
-    rule-is (jumped .before .pre) (jumped .jump .ensures .walks) (c .before .low-bits .ensures) (c .low-bits2 .ensures)
+    let walked = c .before .before in
+    rule-is (walked .before .pre) (walked .map-of .ensures) (c .before .low-bits .ensures) (c .low-bits2 .ensures)
 
 pub rule-of-spec : {M : Type 1} → statement M
-rule-of-spec = tie.close (tie.spec jump-requires low-bits-requires low-bits-requires-2 returns)
+rule-of-spec = tie.close (tie.spec map-of-requires low-bits-requires low-bits-requires-2 returns)

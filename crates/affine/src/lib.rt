@@ -1,4 +1,6 @@
 // The map "times A, plus B", modulo 2^64, and the map of i steps of it, made from the lowest bit of i up.
+#![tactic(auto)]
+
 ghost use Rattle.std.specs.Prelude.{◌≡◌, ◌%◌, ◌^◌};
 ghost use Rattle.affine.specs.Affine.{Composes, apply};
 ghost use Rattle.affine.specs.Trace.{Jumps, OneRound, Onward, Performed, Rounded, progress_of, selected_of};
@@ -7,7 +9,7 @@ use std::num::wrapping_add_u64;
 use words::wrapping_mul;
 
 // The map "times factor, plus offset", modulo 2^64.
-#[derive(Drop)]
+#[derive(Clone, Copy)]
 pub struct Affine {
     pub factor: u64,
     pub offset: u64,
@@ -31,7 +33,7 @@ pub fn compose(first: Affine, second: Affine) -> Affine
 
 // A jump under way: the stride, which is the map of 1, 2, 4, .. steps (document 02: the step in hand), the map of the steps
 // done, and the index left.
-#[derive(Drop)]
+#[derive(Clone, Copy)]
 pub struct Progress {
     pub stride: Affine,
     pub done: Affine,

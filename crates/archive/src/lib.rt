@@ -1,6 +1,8 @@
 // Archives. `checked` tells whether some bytes are one, or why not and in which line. It takes any bytes; no more than 65,536
 // are looked at. A line is compared only with the earlier ones of its slot, by tables on the stack of at most 4,096 slots and
 // 5,462 entries.
+#![tactic(auto)]
+
 ghost use Rattle.archive.specs.Check.{CheckPromise, plain_check};
 
 use refusals::Refusal;
@@ -8,7 +10,7 @@ use refusals::Refusal;
 pub mod checks;
 pub mod parts;
 
-#[derive(Drop)]
+#[derive(Clone, Copy)]
 pub enum ArchiveCheck {
     Accepted,
     Refused(Refusal, u64),

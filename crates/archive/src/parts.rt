@@ -7,7 +7,7 @@ use lines::accepted::accepted_run;
 use runs::Run;
 
 // A run, and where its line ends.
-#[derive(Drop)]
+#[derive(Clone, Copy)]
 pub struct NextRun {
     pub run: Run,
     pub end: usize,

@@ -5,7 +5,7 @@ ghost use Rattle.std.specs.Prelude.{◌≡◌, ◌+◌, ◌-◌, ◌^◌, ◌<�
 ghost use Rattle.archive_io.specs.Input.{After, Filled, GoesOn, reading_after, rest_after};
 
 // What follows the bytes read: nothing, since the input ended; perhaps more; or the read failed.
-#[derive(Drop)]
+#[derive(Clone, Copy)]
 pub enum Rest {
     Nothing,
     Unknown,
@@ -13,7 +13,7 @@ pub enum Rest {
 }
 
 // How many bytes at the start of the buffer were read, and what follows them.
-#[derive(Drop)]
+#[derive(Clone, Copy)]
 pub struct Reading {
     pub n: usize,
     pub rest: Rest,
@@ -21,7 +21,7 @@ pub struct Reading {
 
 // The last read: how many bytes stood in the buffer before it, what it gave, and the reading after it. Its fields but the last
 // are private, so that no other crate can make one up.
-#[derive(Drop)]
+#[derive(Clone, Copy)]
 pub struct LastRead {
     before: usize,
     got: isize,

@@ -1,3 +1,5 @@
 // Reading standard input and the file, and printing.
+#![tactic(auto)]
+
 pub mod input;
 pub mod output;

@@ -1,5 +1,7 @@
 // `line` gives the line of an archive with a number, and `line_part` where it stands. Both take any bytes and check the whole
 // archive first.
+#![tactic(auto)]
+
 ghost use Rattle.archive_line.specs.Line.{LinePromise, PartPromise};
 
 use archive::{ArchiveCheck, checked};
@@ -8,7 +10,7 @@ pub mod by_number;
 
 // A part of the archive, by its first byte and its length.
 #[repr(C)]
-#[derive(Drop)]
+#[derive(Clone, Copy)]
 pub struct Part {
     pub start: usize,
     pub length: usize,

@@ -1,4 +1,6 @@
 // The customary multiplier of a width, from a table. Any number has its answer.
+#![tactic(auto)]
+
 ghost use Rattle.refusals.specs.Replies.{plain_value};
 ghost use Rattle.customary.specs.Customary.{CustomaryPromise};
 

@@ -5,7 +5,7 @@ ghost use Rattle.decimals.specs.Digits.{digits_of};
 ghost use Rattle.decimals.specs.Field.{FieldOf, Written};
 
 // What reading a field finds: its number and the index behind its delimiter.
-#[derive(Drop)]
+#[derive(Clone, Copy)]
 pub enum Field {
     Number(u64, usize),
     Unreadable,

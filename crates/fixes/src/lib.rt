@@ -1,5 +1,7 @@
 // A fix of a run: two deviates, each the float that is exactly its fraction. Any numbers have their answer, after one jump and one
 // step.
+#![tactic(auto)]
+
 ghost use Rattle.fixes.specs.Fix.{FixPromise, plain_fix};
 
 use checks::fix_checked;
@@ -12,13 +14,13 @@ pub mod deviates;
 pub mod plain;
 
 #[repr(C)]
-#[derive(Drop)]
+#[derive(Clone, Copy)]
 pub struct Fix {
     pub east: f64,
     pub north: f64,
 }
 
-#[derive(Drop)]
+#[derive(Clone, Copy)]
 pub enum FixAnswer {
     At(Fix),
     Refused(Refusal),
@@ -26,7 +28,7 @@ pub enum FixAnswer {
 
 // The fix is +0.0 twice beside a refusal.
 #[repr(C)]
-#[derive(Drop)]
+#[derive(Clone, Copy)]
 pub struct FixReply {
     pub refusal: u64,
     pub fix: Fix,

@@ -1,4 +1,6 @@
 // The steps from one number to another, for generators with an odd multiplier. Any numbers have their answer, after two searches.
+#![tactic(auto)]
+
 ghost use Rattle.std.specs.Prelude.{◌≡◌};
 ghost use Rattle.refusals.specs.Refusals.{check_number};
 ghost use Rattle.gaps.specs.Gap.{GapPromise, gap_refusal, plain_gap};
@@ -11,7 +13,7 @@ use sequences::Indices;
 pub mod plain;
 pub mod turns;
 
-#[derive(Drop)]
+#[derive(Clone, Copy)]
 pub enum GapAnswer {
     Steps(i64),
     Never,
@@ -20,7 +22,7 @@ pub enum GapAnswer {
 
 // found is 0 for never.
 #[repr(C)]
-#[derive(Drop)]
+#[derive(Clone, Copy)]
 pub struct GapReply {
     pub refusal: u64,
     pub found: u64,

@@ -1,4 +1,6 @@
 // A generator: its kind, what it must meet, and its elements. Any numbers have their answer.
+#![tactic(auto)]
+
 ghost use Rattle.std.specs.Prelude.{◌≡◌};
 ghost use Rattle.generator.specs.Recurrence as recurrence;
 ghost use Rattle.refusals.specs.Refusals.{check_number};
@@ -13,7 +15,7 @@ pub mod linear;
 pub mod prime;
 
 #[repr(C)]
-#[derive(Drop)]
+#[derive(Clone, Copy)]
 pub struct Generator {
     pub width: u64,
     pub multiplier: u64,
@@ -21,7 +23,7 @@ pub struct Generator {
     pub seed: u64,
 }
 
-#[derive(Drop)]
+#[derive(Clone, Copy)]
 pub enum Kind {
     Linear,
     Prime,

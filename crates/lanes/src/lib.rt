@@ -1,5 +1,7 @@
 // The lanes of a run, one for each watch of a row: a lane is a run of its own, given as a record or written as its line. Any
 // numbers and any buffer have their answer, after one jump and the rule of at most 16 steps.
+#![tactic(auto)]
+
 ghost use Rattle.refusals.specs.Replies.{plain_value};
 ghost use Rattle.lines.specs.ReadLine.{plain_run};
 ghost use Rattle.lanes.specs.Lane.{LanePromise};

@@ -1,6 +1,8 @@
 // The lines of runs. `read_line` gives the run whose line some bytes are, `write_line` writes a run's line to a buffer. Both
 // take any input and decline what the refusal table says. Neither searches: each looks once at the bytes of one line, of which
 // an accepted one has 107 at most.
+#![tactic(auto)]
+
 ghost use Rattle.refusals.specs.Replies.{plain_value};
 ghost use Rattle.lines.specs.ReadLine.{ReadPromise, plain_run};
 ghost use Rattle.lines.specs.WriteLine.{WritePromise};
@@ -14,7 +16,7 @@ pub mod accepted;
 pub mod numbers;
 pub mod plain;
 
-#[derive(Drop)]
+#[derive(Clone, Copy)]
 pub enum RunAnswer {
     Accepted(Run),
     Refused(Refusal),
@@ -22,7 +24,7 @@ pub enum RunAnswer {
 
 // The same in plain numbers: the refusal's number, 0 for none, and the run, all zeros beside a refusal.
 #[repr(C)]
-#[derive(Drop)]
+#[derive(Clone, Copy)]
 pub struct RunReply {
     pub refusal: u64,
     pub run: Run,

@@ -1,5 +1,7 @@
 // The lookup: the earliest location in an archive that shows a number, a line and a position of its run. `lookup` takes any
 // bytes and any number. It checks the archive and then searches each line's run, at most 5,461 of them, by one index search.
+#![tactic(auto)]
+
 ghost use Rattle.lookup.specs.Lookup.{LookupPromise, plain_lookup};
 
 use archive::{ArchiveCheck, checked};
@@ -9,7 +11,7 @@ pub mod location;
 pub mod plain;
 pub mod position;
 
-#[derive(Drop)]
+#[derive(Clone, Copy)]
 pub enum LookupAnswer {
     At(u64, u64),
     Nowhere,
@@ -19,7 +21,7 @@ pub enum LookupAnswer {
 // The same in plain numbers: the refusal's number, 0 for none; the line of the location or of the refusal; found is 0 for none;
 // zeros beside a refusal.
 #[repr(C)]
-#[derive(Drop)]
+#[derive(Clone, Copy)]
 pub struct LookupReply {
     pub refusal: u64,
     pub line: u64,

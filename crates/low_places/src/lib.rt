@@ -1,5 +1,7 @@
 // All indices of a number of which only the low bit places are legible. Any numbers have their answer, after a search of at most
 // as many rounds as places, and one more.
+#![tactic(auto)]
+
 ghost use Rattle.std.specs.Prelude.{◌≡◌};
 ghost use Rattle.refusals.specs.Refusals.{check_number};
 ghost use Rattle.low_places.specs.Places.{PlacesPromise, range_refusal, places_refusal, plain_places};
@@ -12,7 +14,7 @@ use sequences::Indices;
 
 pub mod plain;
 
-#[derive(Drop)]
+#[derive(Clone, Copy)]
 pub enum PlacesAnswer {
     Once(u64),
     Every { index: u64, exponent: u64 },
@@ -22,7 +24,7 @@ pub enum PlacesAnswer {
 
 // found is 0 for never; recurs is 0 for the index only, 1 for it and those every 2^exponent further.
 #[repr(C)]
-#[derive(Drop)]
+#[derive(Clone, Copy)]
 pub struct PlacesReply {
     pub refusal: u64,
     pub found: u64,

@@ -1,6 +1,8 @@
 // The calls over the C boundary, as include/noonpasture.h declares them: each is its call, answered in plain numbers. A slice
 // passes as a pointer and a length, and a player as a pointer. What a call leaves of a player is stored only where it is accepted,
 // since a refused call is to write no byte.
+#![tactic(auto)]
+
 ghost use Rattle.std.specs.Prelude.{◌≡◌};
 ghost use Rattle.generator.specs.Recurrence.{element};
 ghost use Rattle.generator.specs.Check.{refusal_of};

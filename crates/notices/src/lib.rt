@@ -1,2 +1,4 @@
 // What a program tells where it has nothing to show.
+#![tactic(auto)]
+
 pub mod notice;

@@ -7,7 +7,7 @@ ghost use Rattle.notices.specs.Notice.{notice_line, refused_line};
 
 use fields::line;
 
-#[derive(Drop)]
+#[derive(Clone, Copy)]
 pub enum Notice {
     NotFound,
     // The number of a refusal and that of a line.

@@ -1,5 +1,7 @@
 // The orbit of a generator and the least index of a number. No search makes more than n + 1 rounds, n the width, and for the
 // prime-modulus models none makes more than 539 comparisons with a root of unity.
+#![tactic(auto)]
+
 ghost use Rattle.orbits.specs.Orbit.{OrbitPromise, plain_orbit};
 ghost use Rattle.orbits.specs.Index.{IndexPromise, plain_index};
 
@@ -15,14 +17,14 @@ pub mod plain;
 pub mod prime;
 
 // The period is given by its exponent of 2, or itself.
-#[derive(Drop)]
+#[derive(Clone, Copy)]
 pub enum OrbitAnswer {
     Orbit { preperiod: u64, exponent: u64 },
     Period { preperiod: u64, period: u64 },
     Refused(Refusal),
 }
 
-#[derive(Drop)]
+#[derive(Clone, Copy)]
 pub enum IndexAnswer {
     At(u64),
     Never,
@@ -32,7 +34,7 @@ pub enum IndexAnswer {
 // The same in plain numbers: the refusal's number, 0 for none, and zeros beside a refusal. Where period is 0 it is 2^exponent,
 // otherwise it is the period itself, and exponent is 0.
 #[repr(C)]
-#[derive(Drop)]
+#[derive(Clone, Copy)]
 pub struct OrbitReply {
     pub refusal: u64,
     pub preperiod: u64,
@@ -42,7 +44,7 @@ pub struct OrbitReply {
 
 // found is 0 for never.
 #[repr(C)]
-#[derive(Drop)]
+#[derive(Clone, Copy)]
 pub struct IndexReply {
     pub refusal: u64,
     pub found: u64,

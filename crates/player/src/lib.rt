@@ -1,5 +1,7 @@
 // A player: a run, a position on it and four marks. Each call takes the record by value and gives it back, changed or, beside a
 // refusal, as it was. Over the C boundary `noonpasture` has the same calls on a record that is lent.
+#![tactic(auto)]
+
 ghost use Rattle.player.specs.PlainPlayer.{Open, Forward, Back, SetMark, Return, Show};
 ghost use Rattle.player.specs.Player.{PlayerPromise, told};
 
@@ -14,7 +16,7 @@ pub mod states;
 
 // A position to return to. `set` is 0 while there is none; any other number stands for set.
 #[repr(C)]
-#[derive(Drop)]
+#[derive(Clone, Copy)]
 pub struct Mark {
     pub set: u64,
     pub position: u64,
@@ -22,7 +24,7 @@ pub struct Mark {
 
 // Any numbers may stand in it.
 #[repr(C)]
-#[derive(Drop)]
+#[derive(Clone, Copy)]
 pub struct Player {
     pub run: Run,
     pub position: u64,
@@ -30,7 +32,7 @@ pub struct Player {
 }
 
 // What a call gives: the refusal's number, 0 for none, and the record after it.
-#[derive(Drop)]
+#[derive(Clone, Copy)]
 pub struct Outcome {
     pub refusal: u64,
     pub player: Player,

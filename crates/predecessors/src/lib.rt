@@ -1,4 +1,6 @@
 // The predecessor of a number. Any numbers have their answer.
+#![tactic(auto)]
+
 ghost use Rattle.std.specs.Prelude.{◌≡◌};
 ghost use Rattle.generator.specs.Recurrence as recurrence;
 ghost use Rattle.refusals.specs.Refusals.{check_number};

@@ -1,2 +1,4 @@
 // The question on standard input.
+#![tactic(auto)]
+
 pub mod question;

@@ -1,10 +1,12 @@
 // Why a call declines, and an answer of one number. Two checks are joined here, and an answer told in plain numbers.
+#![tactic(auto)]
+
 ghost use Rattle.std.specs.Prelude.{◌≡◌};
 ghost use Rattle.refusals.specs.Refusals.{number_of, check_number, or_else};
 ghost use Rattle.refusals.specs.Replies.{plain_value};
 
 // Why a call declines; specs/Refusals.antt has the customer's numbers.
-#[derive(Drop)]
+#[derive(Clone, Copy)]
 pub enum Refusal {
     ArchiveTooLong,
     MalformedLine,
@@ -24,13 +26,13 @@ pub enum Refusal {
     Incompatible,
 }
 
-#[derive(Drop)]
+#[derive(Clone, Copy)]
 pub enum Check {
     Accepted,
     Refused(Refusal),
 }
 
-#[derive(Drop)]
+#[derive(Clone, Copy)]
 pub enum ValueAnswer {
     Value(u64),
     Refused(Refusal),
@@ -38,7 +40,7 @@ pub enum ValueAnswer {
 
 // The same in plain numbers: the refusal's number, 0 for none, and the value, 0 beside a refusal.
 #[repr(C)]
-#[derive(Drop)]
+#[derive(Clone, Copy)]
 pub struct ValueReply {
     pub refusal: u64,
     pub value: u64,

@@ -1,4 +1,6 @@
 // Remakes a part of a run: what its positions show, one number after the other.
+#![tactic(auto)]
+
 ghost use Rattle.refusals.specs.Replies.{plain_value};
 ghost use Rattle.remake.specs.Remake.{RemakePromise};
 

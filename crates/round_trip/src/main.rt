@@ -1,4 +1,6 @@
 // A client of the lines: a run is written and read back, and its proof rests on the two calls' contracts alone.
+#![tactic(auto)]
+
 ghost use Rattle.std.specs.Prelude.{◌≡◌};
 ghost use Rattle.runs.specs.Run.{run_refusal};
 ghost use Rattle.lines.specs.ReadLine.{plain_run, run_reply};

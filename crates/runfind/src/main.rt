@@ -1,4 +1,6 @@
 // Finds a number in the archive `archive.csv` of the current folder.
+#![tactic(auto)]
+
 use archive_io::input::read_input;
 use runfind_io::response::respond;
 use runfind_output::output::print_outcome;

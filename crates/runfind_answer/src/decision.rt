@@ -12,7 +12,7 @@ use questions::question::ask;
 use runfind_output::output::Outcome;
 
 // The number sought, or that there is no question.
-#[derive(Drop)]
+#[derive(Clone, Copy)]
 pub enum Question {
     Number(u64),
     Malformed,

@@ -1,2 +1,4 @@
 // What the program `runfind` writes.
+#![tactic(auto)]
+
 pub mod output;

@@ -6,7 +6,7 @@ ghost use Rattle.runfind_output.specs.Output.{outcome_line};
 use archive_io::output::print;
 use notices::notice::{Notice, write_notice, write_pair};
 
-#[derive(Drop)]
+#[derive(Clone, Copy)]
 pub enum Outcome {
     // The number of a line and a position.
     Location(u64, u64),

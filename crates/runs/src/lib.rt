@@ -1,4 +1,6 @@
 // A run of a generator: a first index and a count, and what a run must meet.
+#![tactic(auto)]
+
 ghost use Rattle.std.specs.Prelude.{◌≡◌};
 ghost use Rattle.refusals.specs.Refusals.{check_number};
 ghost use Rattle.runs.specs.Run.{run_refusal};
@@ -10,7 +12,7 @@ pub mod start;
 
 // Position p of a run, below its count, shows element first + p.
 #[repr(C)]
-#[derive(Drop)]
+#[derive(Clone, Copy)]
 pub struct Run {
     pub generator: Generator,
     pub first: u64,

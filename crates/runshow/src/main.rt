@@ -1,4 +1,6 @@
 // Shows the numbers of a run in the archive `archive.csv` of the current folder.
+#![tactic(auto)]
+
 use archive_io::input::read_input;
 use runshow_io::response::respond;
 use runshow_output::output::print_outcome;

@@ -12,7 +12,7 @@ use questions::question::ask;
 use runshow_output::output::Outcome;
 
 // The number of a line, a position and how many numbers are to be shown from there on, or that there is no question.
-#[derive(Drop)]
+#[derive(Clone, Copy)]
 pub enum Question {
     Numbers(u64, u64, u64),
     Malformed,

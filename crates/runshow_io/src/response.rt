@@ -11,7 +11,7 @@ use runshow_answer::decision::{Question, asked, decide};
 use runshow_output::output::Outcome;
 
 // What is to be printed, and what was read of the file, which the promise of `respond` speaks of.
-#[derive(Drop)]
+#[derive(Clone, Copy)]
 pub struct Response {
     pub outcome: Outcome,
     pub archive: LastRead,

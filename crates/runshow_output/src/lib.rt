@@ -1,2 +1,4 @@
 // What the program `runshow` writes.
+#![tactic(auto)]
+
 pub mod output;

@@ -8,7 +8,7 @@ use notices::notice::{Notice, write_notice};
 use runs::Run;
 use runshow_text::text::write_chunk;
 
-#[derive(Drop)]
+#[derive(Clone, Copy)]
 pub enum Outcome {
     // A run, a position below its count, and how many numbers are asked for, at least one.
     Part(Run, u64, u64),
@@ -16,7 +16,7 @@ pub enum Outcome {
 }
 
 // How many numbers were shown, and whether all that was to be printed could be written.
-#[derive(Drop)]
+#[derive(Clone, Copy)]
 pub struct Shown {
     pub count: u64,
     pub written: bool,

@@ -1,2 +1,4 @@
 // The numbers of a part of one run as text.
+#![tactic(auto)]
+
 pub mod text;

@@ -23,7 +23,7 @@ pub fn write_numbers(buf: &mut [u8], numbers: &[u64]) -> usize
 }
 
 // How many numbers a chunk has, and how many bytes they take.
-#[derive(Drop)]
+#[derive(Clone, Copy)]
 pub struct Chunk {
     pub made: usize,
     pub bytes: usize,

@@ -1,4 +1,6 @@
 // Prints the summary of the archive `archive.csv` of the current folder.
+#![tactic(auto)]
+
 use archive_io::input::read_archive;
 use runsum_io::output::print_output;
 

@@ -1,2 +1,4 @@
 // What the program `runsum` prints.
+#![tactic(auto)]
+
 pub mod output;

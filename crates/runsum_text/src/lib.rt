@@ -1,2 +1,4 @@
 // The text of the summary.
+#![tactic(auto)]
+
 pub mod text;

@@ -1,4 +1,6 @@
 // Searches up the bit places of a sequence, over plain numbers: one round a place, at most `limit` of them.
+#![tactic(auto)]
+
 ghost use Rattle.std.specs.Prelude.{◌≡◌, if◌then◌else◌};
 ghost use Rattle.search.specs.Settling.{Settling};
 
@@ -8,7 +10,7 @@ use words::{alpha, wrapping_mul};
 pub mod period;
 
 // How many places were settled; the least index that agrees in them, and the exponent of the period in them.
-#[derive(Drop)]
+#[derive(Clone, Copy)]
 pub struct Settled {
     pub places: u64,
     pub index: u64,

@@ -1,4 +1,6 @@
 // What two runs share. Any two runs have their answer, after one search.
+#![tactic(auto)]
+
 ghost use Rattle.refusals.specs.Replies.{plain_value};
 ghost use Rattle.shared.specs.Shared.{SharedPromise};
 

@@ -1,5 +1,7 @@
 // The summary of an archive: how many lines it has, and the sum of their counts. `summary` takes any bytes, checks them and
 // then goes once over the lines. A sum above 2^64 - 1 is declined.
+#![tactic(auto)]
+
 ghost use Rattle.summary.specs.Summary.{SummaryPromise, plain_summary};
 
 use archive::{ArchiveCheck, checked};
@@ -9,7 +11,7 @@ pub mod plain;
 pub mod totals;
 
 // The number of lines and the sum of their counts.
-#[derive(Drop)]
+#[derive(Clone, Copy)]
 pub enum SummaryAnswer {
     Sum(u64, u64),
     Refused(Refusal, u64),
@@ -17,7 +19,7 @@ pub enum SummaryAnswer {
 
 // The same in plain numbers: the refusal's number, 0 for none, and its line; zeros beside a refusal.
 #[repr(C)]
-#[derive(Drop)]
+#[derive(Clone, Copy)]
 pub struct SummaryReply {
     pub refusal: u64,
     pub line: u64,

@@ -1,4 +1,6 @@
 // How many different numbers a run shows.
+#![tactic(auto)]
+
 ghost use Rattle.refusals.specs.Replies.{plain_value};
 ghost use Rattle.variety.specs.Variety.{VarietyPromise};
 

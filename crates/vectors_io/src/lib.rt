@@ -1,6 +1,8 @@
 // Answers stored calls. Each line of standard input is a call: its letter, and behind each comma a
 // number. Standard output has the reply to each, its numbers separated by commas, or `?` where the
 // line is no call.
+#![tactic(auto)]
+
 use archive::parts::part_end;
 use replies::Reply;
 

@@ -38,7 +38,7 @@ fn marks(line: &[u8]) -> usize {
 }
 
 // What reading a list of bytes finds.
-#[derive(Drop)]
+#[derive(Clone, Copy)]
 pub enum Bytes {
     Count(usize),
     Unreadable,

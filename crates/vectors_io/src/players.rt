@@ -7,7 +7,7 @@ use player::{Mark, Outcome, Player, forwarded, marked, moved_back, opened, retur
 use runs::Run;
 
 // What a call gives, and leaves.
-#[derive(Drop)]
+#[derive(Clone, Copy)]
 struct Step {
     refusal: u64,
     value: u64,

@@ -4,7 +4,7 @@ ghost use Rattle.std.specs.Prelude.{◌≡◌, ◌+◌, ◌*◌, ◌≤◌, ◌<
 use fields::line;
 
 // The numbers of a reply, by how many they are.
-#[derive(Drop)]
+#[derive(Clone, Copy)]
 pub enum Reply {
     Unreadable,
     Two(u64, u64),

@@ -1,4 +1,6 @@
 // 64-bit machine arithmetic: the product modulo 2^64, the first place in which two numbers differ.
+#![tactic(auto)]
+
 ghost use Rattle.std.specs.Prelude.{◌≡◌, ◌*◌, ◌%◌, ◌^◌};
 ghost use Rattle.words.specs.Alpha.{Alpha, FirstDifference};
 

@@ -1,0 +1,12 @@
+-- `search::settle` meets its contract: the loop's invariant is `Loop`, with a law for each way through.
+use Rattle.std.proofs.Common.{rules}
+use Rattle.search.proofs.Rounds.{Loop, loop_start, loop_stays, loop_doubles, loop_stops, loop_done}
+use Rattle.search.proofs.settle.Given as goal
+
+abbrev pub invariant-loop-left : goal.invariant-loop-left
+invariant-loop-left l =
+    Loop l.limit l.initial.away l.initial.drift l.initial.factor l.away l.drift l.factor l.differs l.k l.period l.left l.m
+
+abbrev pub decreases-loop-left : goal.decreases-loop-left
+decreases-loop-left l =
+    l.left

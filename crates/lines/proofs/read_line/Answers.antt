@@ -7,14 +7,14 @@ use borrow.Author.Tests.{not-true, not-false}
 use Rattle.lines.proofs.read_line.Goals as goal
 
 pub returns-then-not-read : goal.returns-then-not-read
-returns-then-not-read c = read_malformed c.read.ensures refl (not-true _ c.if-not-read.true)
+returns-then-not-read c = read_malformed c.read.ensures refl c.if-not-read.true
 
 pub returns-in-Refused : goal.returns-in-Refused
 returns-in-Refused c =
-    read_refused c.read.ensures refl (not-false _ c.if-not-read.false) c.run_of-run.ensures c.in-Refused.refusal
+    read_refused c.read.ensures refl c.if-not-read.false c.run_of-run.ensures c.in-Refused.refusal
     (number_refused c.checked-verdict.ensures c.in-Refused.is)
 
 pub returns : goal.returns
 returns c =
-    read_accepted c.read.ensures refl (not-false _ c.if-not-read.false) c.run_of-run.ensures
+    read_accepted c.read.ensures refl c.if-not-read.false c.run_of-run.ensures
     (number_accepted c.checked-verdict.ensures c.in_default.is)

@@ -59,10 +59,10 @@ module _ (g : Generator) (z : gap_refusal g ≡ 0) where
       let f = recurring_located o.1 (element_follows g) r in
       (subst (IsOrbit (element g) 0) (sym f.0) o.1, f.1, omega (arith, r.room))
 
-  pub other_absent : (y : ℕ) (r : Indices) → (tag_of the_type r ≡ 0) ⊎ (tag_of the_type r ≡ 2) →
+  pub other_absent : (y : ℕ) (r : Indices) → ((k last : ℕ) → r ≡ indices.Every k last → ⊥) →
       IndicesAre (element g) y (modulus g) r → Absent (element g) y
   other_absent y (indices.Once k) t h = absurd (alone_nowhere accepted_orbit.1 h)
-  other_absent y (indices.Every k last) t h = absurd (⊎_elim (λ e. omega arith) (λ e. omega arith) t)
+  other_absent y (indices.Every k last) t h = absurd (t k last refl)
   other_absent y indices.Never t h = h
 
   pub period_last : (y k last : ℕ) → IndicesAre (element g) y (modulus g) (indices.Every k last) → period g ≡ suc last

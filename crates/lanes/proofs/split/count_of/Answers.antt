@@ -2,20 +2,10 @@
 use borrow.Author.Rules.{rules}
 use native.Mathlib.Omega.{arith}
 use Rattle.lanes.proofs.Counting.{count_quotient, count_within}
-use Rattle.lanes.proofs.split.count_of.Statement.{statement}
-use Rattle.lanes.proofs.split.count_of.Tie as tie
+use Rattle.lanes.proofs.split.count_of.Goals as goal
 
-sub-result : tie.Need-overflow-sub-result
-sub-result c = search rules
-
-sub-result-2 : tie.Need-overflow-sub-result-2
-sub-result-2 c = search rules
-
-div-result : tie.Need-nonzero-div-result
-div-result c = search rules
-
-add-result : tie.Need-overflow-add-result
-add-result c =
+pub overflow_add-result : goal.overflow_add-result
+overflow_add-result c =
     let count = c.args.count in
     let k = c.args.k in
     let j = c.args.j in
@@ -29,8 +19,5 @@ add-result c =
           );
     }
 
-returns : tie.Need-returns
+pub returns : goal.returns
 returns c = count_quotient c.args.k c.args.count c.args.j c.requires.0 c.requires.1
-
-pub count-of-spec : {M : Type 1} → statement M
-count-of-spec = tie.close (tie.spec sub-result sub-result-2 div-result add-result returns)

@@ -78,7 +78,7 @@ module _ (first second : Run) (z : shared_refusal first second ≡ 0) where
   first_gap = gap_accepts first.generator first_accepted pair.rule.odd
 
   -- The second seed has no index: nothing is common.
-  pub shared_nothing : (r : Indices) → (tag_of the_type r ≡ 0) ⊎ (tag_of the_type r ≡ 2) →
+  pub shared_nothing : (r : Indices) → ((k last : ℕ) → r ≡ indices.Every k last → ⊥) →
       IndicesAre (element first.generator) second.generator.seed (modulus first.generator) r →
       0 ≡ shared_of first second
   unfolding shared_of shows

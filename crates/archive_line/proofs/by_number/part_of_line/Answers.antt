@@ -1,0 +1,33 @@
+-- `archive_line::by_number::part_of_line` meets its contract: the loop is a walk whose state is where the next line starts.
+use Prim.Native.Nat.{◌-◌}
+use native.Mathlib.Omega.{arith}
+use lib.ListN.{length}
+use Rattle.archive.proofs.Splitting.{part_within, part_advances}
+use Rattle.archive.proofs.Folding.{Fold, fold_start}
+use Rattle.archive_line.specs.Line.{part_from}
+use Rattle.archive_line.proofs.PartOfLine.{part_found, part_reached, part_passed, part_missing}
+use borrow.Author.Rules.{rules}
+use Rattle.archive_line.proofs.by_number.part_of_line.Goals as goal
+
+pub loop-at-init : goal.loop-at-init
+loop-at-init c = fold_start
+
+pub returns-then-k-number : goal.returns-then-k-number
+returns-then-k-number c =
+    part_found c.requires
+    (part_reached _ c.loop-at.invariant c.loop-at-test.true c.part_end-end.ensures c.if-k-number.true)
+
+pub loop-at-smaller : goal.loop-at-smaller
+loop-at-smaller c =
+    omega (
+      arith,
+      part_advances _ c.loop-at-test.true c.part_end-end.ensures,
+      part_within _ c.loop-at-test.true c.part_end-end.ensures,
+    )
+
+pub loop-at-preserved : goal.loop-at-preserved
+loop-at-preserved c =
+    part_passed _ c.loop-at.invariant c.loop-at-test.true c.part_end-end.ensures c.if-k-number.false
+
+pub returns : goal.returns
+returns c = part_found c.requires (part_missing _ c.loop-at.invariant c.loop-at-test.false)

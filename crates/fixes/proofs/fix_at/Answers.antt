@@ -1,8 +1,5 @@
 -- `fixes::fix_at` meets its contract.
-use borrow.Author.Rules.{rules}
-use mathlib.Core.Path.{◌≡◌}
 use Rattle.refusals.proofs.Replies.{number_accepted, number_refused}
-use Rattle.fixes.specs.Fix.{fix_refusal}
 use Rattle.fixes.proofs.Promises.{fix_refused, fix_given}
 use Rattle.fixes.proofs.fix_at.Goals as goal
 

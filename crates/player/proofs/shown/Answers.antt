@@ -1,29 +1,22 @@
 -- `player::shown` meets its contract: a record that passes the check has a position on its run, so no index is above 2^64 - 1.
-use borrow.Author.Rules.{rules}
 use mathlib.Core.Path.{◌∙◌}
 use native.Mathlib.Omega.{arith}
-use Rattle.refusals.proofs.Replies.{number_accepted, number_refused, value_refused, value_given}
+use Rattle.refusals.proofs.Replies.{number_accepted, value_given}
 use Rattle.runs.specs.Run.{shows}
 use Rattle.runs.proofs.Runs.{valid_run}
-use Rattle.player.proofs.Promises.{Held, held_passed, shown_promise}
+use Rattle.player.proofs.Promises.{held_passed, shown_promise}
 use Rattle.player.proofs.shown.Goals as goal
-
-pub returns-in-Refused : goal.returns-in-Refused
-returns-in-Refused c =
-    shown_promise _
-    (c.of_value.ensures
-    ∙ value_refused c.in-Refused.refusal _ (number_refused c.held-verdict.ensures c.in-Refused.is))
 
 pub overflow_add-index : goal.overflow_add-index
 overflow_add-index c =
-    let held = (held_passed _ (number_accepted c.held-verdict.ensures c.in_default.is)) in
+    let held = (held_passed c.args.player (number_accepted c.held-verdict.ensures c.in_default.is)) in
     record { fits = omega (arith, held.on, (valid_run _ held.run).end) }
 
 pub value_of-requires : goal.value_of-requires
-value_of-requires c = (valid_run _ ((held_passed _ (number_accepted c.held.ensures c.enum_told.given.1))).run).generator
+value_of-requires c = (valid_run _ (held_passed c.args.player (number_accepted c.held-verdict.ensures c.in_default.is)).run).generator
 
 pub returns : goal.returns
 unfolding shows
 returns c =
     shown_promise _
-    (c.of_value-2.ensures ∙ value_given _ ((held_passed _ (number_accepted c.held.ensures c.enum_told.given.1))).passed c.value_of.ensures)
+    (c.of_value-2.ensures ∙ value_given _ (held_passed c.args.player (number_accepted c.held-verdict.ensures c.in_default.is)).passed c.value_of.ensures)

@@ -1,15 +1,9 @@
 -- `fixes::checks::fix_checked` meets its contract: each way out rewrites the definition by the tests that led there.
-use borrow.Author.Rules.{rules}
-use mathlib.Core.Path.{◌≡◌, ◌∙◌}
-use mathlib.Core.Bool.{true, false}
+use mathlib.Core.Path.{◌∙◌}
 use Prim.Native.Nat.{◌+◌, ◌*◌}
 use native.Mathlib.Omega.{arith}
-use lib.Dec.{leb}
 use borrow.Author.Tests.{le-leb, lt-leb}
 use Rattle.refusals.proofs.Replies.{number_accepted, refused_first}
-use Rattle.generator.specs.declared.Kind.TheVariants as kind
-use Rattle.generator.specs.Recurrence.{kind_of}
-use Rattle.runs.specs.Run.{run_refusal}
 use Rattle.fixes.specs.Fix.{fix_refusal}
 use Rattle.fixes.proofs.checks.fix_checked.Goals as goal
 
@@ -20,14 +14,22 @@ returns-in-Refused c = refused_first _ c.checked-verdict.ensures c.in-Refused.is
 pub returns-in-Prime : goal.returns-in-Prime
 unfolding fix_refusal
 returns-in-Prime c =
-    simp ((number_accepted c.checked.ensures c.enum-told2.given.1), c.kind_of-kind.ensures.is ∙ c.in-Prime.is)
+    simp ((number_accepted c.checked-verdict.ensures c.in_default.is), c.kind_of-kind.ensures.is ∙ c.in-Prime.is)
 
 pub returns-then-run-fix : goal.returns-then-run-fix
 unfolding fix_refusal
-returns-then-run-fix c = simp ((number_accepted c.checked.ensures c.enum-told2.given.1), (c.kind_of-kind.ensures.is ∙ c.in_default-kind.is), (let given = c.args in
-    le-leb given.run.count (2 * given.fix + 1) (omega (arith, c.if-run-fix.true))))
+returns-then-run-fix c = simp (
+  (number_accepted c.checked-verdict.ensures c.in_default.is),
+  (c.kind_of-kind.ensures.is ∙ c.in_default-kind.is),
+  (let given = c.args in
+      le-leb given.run.count (2 * given.fix + 1) (omega (arith, c.if-run-fix.true))),
+)
 
 pub returns : goal.returns
 unfolding fix_refusal
-returns c = simp ((number_accepted c.checked.ensures c.enum-told2.given.1), (c.kind_of-kind.ensures.is ∙ c.in_default-kind.is), (let given = c.args in
-    lt-leb given.run.count (2 * given.fix + 1) (omega (arith, c.if-run-fix.false))))
+returns c = simp (
+  (number_accepted c.checked-verdict.ensures c.in_default.is),
+  (c.kind_of-kind.ensures.is ∙ c.in_default-kind.is),
+  (let given = c.args in
+      lt-leb given.run.count (2 * given.fix + 1) (omega (arith, c.if-run-fix.false))),
+)

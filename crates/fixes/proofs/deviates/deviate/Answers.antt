@@ -1,6 +1,5 @@
 -- `fixes::deviates::deviate` meets its contract: both casts are of whole numbers up to 2 ^ 53, and what the machine makes of them is
 -- the float of the definition.
-use borrow.Author.Rules.{rules}
 use Rattle.fixes.proofs.ExactDeviates.{kept_fits, whole_fits, machine_made}
 use Rattle.fixes.proofs.deviates.deviate.Goals as goal
 

@@ -1,11 +1,10 @@
 -- `fixes::deviates::fix_of` meets its contract: the positions are on the run, so that no index is above 2^64 - 1, and one step from
 -- the first element leads to the second.
 use mathlib.Core.Path.{ap, ap₂, ◌∙◌}
-use Prim.Native.Nat.{◌^◌, ◌<◌}
 use native.Mathlib.Omega.{arith}
 use lib.Ieee.{Float}
 use Rattle.fixes.specs.Deviate.{deviate_of}
-use Rattle.fixes.proofs.Promises.{ValidFix, valid_fix, is_element, east_shown, north_shown, shown_below}
+use Rattle.fixes.proofs.Promises.{valid_fix, is_element, east_shown, north_shown, shown_below}
 use Rattle.fixes.proofs.deviates.fix_of.Goals as goal
 
 pub overflow_mul-index : goal.overflow_mul-index
@@ -27,15 +26,27 @@ next_of-north-requires c =
 
 pub deviate-requires : goal.deviate-requires
 deviate-requires c =
-    let v = (valid_fix _ _ c.requires) in
-    (v.width_high, omega (arith, (shown_below _ ((valid_fix _ _ c.requires)) (east_shown _ _ c.value_of-east.ensures)), (shown_below _ ((valid_fix _ _ c.requires))
-    (north_shown _ _ c.value_of-east.ensures c.next_of-north.ensures))))
+    let v = (valid_fix _ _ c.requires) in (
+      v.width_high,
+      omega (
+        arith,
+        (shown_below _ ((valid_fix _ _ c.requires)) (east_shown _ _ c.value_of-east.ensures)),
+        (shown_below _ ((valid_fix _ _ c.requires))
+            (north_shown _ _ c.value_of-east.ensures c.next_of-north.ensures)),
+      ),
+    )
 
 pub deviate-requires-2 : goal.deviate-requires-2
 deviate-requires-2 c =
-    let v = (valid_fix _ _ c.requires) in
-    (v.width_high, omega (arith, (shown_below _ ((valid_fix _ _ c.requires)) (east_shown _ _ c.value_of-east.ensures)), (shown_below _ ((valid_fix _ _ c.requires))
-    (north_shown _ _ c.value_of-east.ensures c.next_of-north.ensures))))
+    let v = (valid_fix _ _ c.requires) in (
+      v.width_high,
+      omega (
+        arith,
+        (shown_below _ ((valid_fix _ _ c.requires)) (east_shown _ _ c.value_of-east.ensures)),
+        (shown_below _ ((valid_fix _ _ c.requires))
+            (north_shown _ _ c.value_of-east.ensures c.next_of-north.ensures)),
+      ),
+    )
 
 pub returns : goal.returns
 returns c =

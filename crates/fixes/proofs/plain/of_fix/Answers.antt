@@ -1,5 +1,4 @@
 -- `fixes::plain::of_fix` meets its contract: the bits 0 are those of +0.0.
-use borrow.Author.Rules.{rules}
 use lib.Ieee.{of_bits}
 use Rattle.fixes.proofs.plain.of_fix.Goals as goal
 

@@ -17,8 +17,12 @@ returns-then-run-position c = remake_none _ _ ((number_accepted c.checked-verdic
 
 pub fill-requires : goal.fill-requires
 fill-requires c =
-    let v = valid_run _ ((number_accepted c.checked-verdict.ensures c.in_default.is)) in
-    (v.generator, (omega (arith, v.end, c.if-run-position.false), search rules))
+    let v = valid_run _ (number_accepted c.checked-verdict.ensures c.in_default.is) in
+    record {
+      generator_value = v.generator;
+      position_bound = omega (arith, v.end, c.if-run-position.false);
+      n_in_bounds = search rules;
+    }
 
 pub returns : goal.returns
 returns c =

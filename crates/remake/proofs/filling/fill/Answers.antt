@@ -11,11 +11,11 @@ unfolding shows
 loop-k-init c = (remake_start _ _ _ c.value_of-number.ensures, search rules)
 
 pub next_of-next-requires : goal.next_of-next-requires
-next_of-next-requires c = (search rules, is_element c.loop.invariant.0)
+next_of-next-requires c = (search rules, is_element c.loop-k.invariant.0)
 
 pub loop-k-preserved : goal.loop-k-preserved
 loop-k-preserved c =
-    (remake_next c.loop.invariant.0 (search rules) c.next_of-next.ensures, search rules)
+    (remake_next c.loop-k.invariant.0 (search rules) c.next_of-next.ensures, search rules)
 
 pub shape_of-numbers : goal.shape_of-numbers
 shape_of-numbers c = c.loop-k.invariant.0.size

@@ -1,11 +1,16 @@
 -- What a read tells of the bytes read so far, and, for the functions behind the decision, how many bytes have to be read where
 -- more may follow.
-use Rattle.std.specs.Prelude.{◌≡◌, Bool, true, false, List, ℕ, zero, suc, ◌+◌, ◌-◌, ◌≤◌, ◌<◌, length, ℤ, pos, negsuc}
+use Rattle.std.specs.Prelude.{◌≡◌, Bool, true, false, List, ℕ, zero, suc, ◌+◌, ◌-◌, ◌≤◌, ◌<◌, length, ℤ, pos, negsuc, Result, Ok, Err}
 use Rattle.io.specs.Counts.{IsPrefixLen, clamp_len}
 use Rattle.archive_io.specs.declared.input.Reading.{Reading}
 use Rattle.archive_io.specs.declared.input.LastRead.{LastRead}
 use Rattle.archive_io.specs.declared.input.Rest.{Rest}
 use Rattle.archive_io.specs.declared.input.Rest.TheVariants.{Nothing, Unknown, Failed}
+
+-- What a read gave: how many bytes, or -1 if it failed.
+abbrev pub given : {E : Type 0} → Result ℕ E → ℤ
+given (Ok n) = pos n
+given (Err e) = negsuc 0
 
 -- What follows the bytes read, by what the last read gave: less than 0 is a failure, and 0 the end.
 unfoldable pub rest_after : ℤ → Rest

@@ -1,8 +1,12 @@
 // Reading standard input and the archive. No contract can say which bytes a read brings, so these
 // functions only fill a buffer and tell how many bytes of it were read and what may follow them. What
 // they tell is made of what the last read gave, and goes with it wherever it goes.
-ghost use Rattle.std.specs.Prelude.{◌≡◌, ◌+◌, ◌-◌, ◌^◌, ◌<◌, length};
-ghost use Rattle.archive_io.specs.Input.{After, Filled, GoesOn, reading_after, rest_after};
+ghost use Rattle.std.specs.Prelude.{IfOk, ◌≡◌, ◌+◌, ◌-◌, ◌^◌, ◌<◌, length};
+ghost use Rattle.archive_io.specs.Input.{After, Filled, GoesOn, given, reading_after, rest_after};
+
+use std::fs;
+use std::io::{Input, Read};
+use std::rt::Files;
 
 // What follows the bytes read: nothing, since the input ended; perhaps more; or the read failed.
 #[derive(Clone, Copy)]
@@ -29,25 +33,23 @@ pub struct LastRead {
 }
 
 // Reads standard input.
-pub fn read_input(buf: &mut [u8]) -> LastRead
+pub fn read_input(rt: &impl Input, buf: &mut [u8]) -> LastRead
     requires { 0 < length buf.old }
     ensures { Filled buf.new result }
 {
-    read_to_end(libc::STDIN_FILENO, buf)
+    let mut input = rt.reader();
+    read_to_end(&mut input, buf)
 }
 
-// Reads the archive.
-pub fn read_archive(buf: &mut [u8]) -> LastRead
+// Reads the archive, and closes it.
+pub fn read_archive(rt: &impl Files, buf: &mut [u8]) -> LastRead
     requires { 0 < length buf.old }
     ensures { Filled buf.new result }
 {
-    let fd = os::open_read(b"archive.csv");
-    if fd < 0 {
-        return not_read(buf);
+    match fs::open(rt, "archive.csv") {
+        Ok(mut file) => read_to_end(&mut file, buf),
+        Err(_) => not_read(buf),
     }
-    let last = read_to_end(fd, buf);
-    libc::close(fd);
-    last
 }
 
 // Nothing could be read into the buffer, or nothing was: as after a first read that failed.
@@ -62,15 +64,15 @@ pub fn not_read(buf: &[u8]) -> LastRead
 }
 
 // Reads until the buffer is full, the input ends or a read fails. The input may come in pieces.
-fn read_to_end(fd: i32, buf: &mut [u8]) -> LastRead
+fn read_to_end<R: Read>(source: &mut R, buf: &mut [u8]) -> LastRead
     requires { 0 < length buf.old }
     ensures { Filled buf.new result }
 {
-    let mut last = read_more(fd, buf, 0);
+    let mut last = read_more(source, buf, 0);
     while goes_on(last.reading, buf.len()) {
         let reading = last.reading;
         let n = reading.n;
-        let next = read_more(fd, buf, n);
+        let next = read_more(source, buf, n);
         last = next;
     }
     last
@@ -90,15 +92,26 @@ fn goes_on(reading: Reading, size: usize) -> bool
 
 // One read behind the first bytes of the buffer. A read that a signal interrupts would count as failed, but
 // the program handles no signal, so none is interrupted.
-fn read_more(fd: i32, buf: &mut [u8], before: usize) -> LastRead
+fn read_more<R: Read>(source: &mut R, buf: &mut [u8], before: usize) -> LastRead
     requires { before < length buf.old }
     ensures { (result.before ≡ before) × After buf.new result }
 {
-    let got = libc::read(fd, &mut buf[before..]);
+    let got = given(source.read(&mut buf[before..]));
     LastRead {
         before,
         got,
         reading: reading_after(before, got, &buf[before..]),
+    }
+}
+
+// What a read gave: how many bytes, or -1 if it failed.
+fn given(read: std::io::Result<usize>) -> isize
+    requires { IfOk read (λ n. n < 2 ^ 63) }
+    ensures { result ≡ given read }
+{
+    match read {
+        Ok(n) => n as isize,
+        Err(_) => -1,
     }
 }
 

@@ -1,10 +1,22 @@
 // Standard output.
+ghost use Rattle.std.specs.Prelude.{◌≡◌, true};
+ghost use Rattle.std.specs.Io.KnownBytes.{Appends};
 
-// Writes to standard output. If that fails, the complaint goes to standard error.
-pub fn print(bytes: &[u8], complaint: &[u8]) -> bool {
-    if io::write_all(libc::STDOUT_FILENO, bytes) {
+use std::io::Write;
+
+// Writes to standard output. If that fails, the complaint goes to standard error. Where the bytes that a writer holds are known,
+// all were written if it says so.
+pub fn print<W: Write, E: Write>(
+    output: &mut W,
+    errors: &mut E,
+    bytes: &[u8],
+    complaint: &[u8],
+) -> bool
+    ensures { result ≡ true → Appends (W.contents output.old) (W.contents output.new) bytes.now }
+{
+    if output.write_all(bytes).is_ok() {
         return true;
     }
-    io::write_all(libc::STDERR_FILENO, complaint);
+    let _ = errors.write_all(complaint);
     false
 }

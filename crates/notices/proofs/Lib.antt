@@ -1,2 +1,2 @@
--- What each step of writing a word or two numbers shows.
+-- How long a line of two numbers is.
 mod Words

@@ -48,5 +48,6 @@ pub fn write_word(buf: &mut [u8], word: &[u8]) -> usize
     requires { length word.now ≤ length buf.old }
     ensures { FrontWritten word.now buf.old buf.new result }
 {
-    bytes::copy(word, buf)
+    buf[..word.len()].copy_from_slice(word);
+    word.len()
 }

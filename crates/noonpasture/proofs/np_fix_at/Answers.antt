@@ -1,0 +1,6 @@
+-- `noonpasture::np_fix_at` meets its contract: the call's own, in plain numbers.
+use borrow.Author.Rules.{rules}
+use Rattle.noonpasture.proofs.np_fix_at.Goals as goal
+
+pub returns : goal.returns
+returns c = rw c.of_fix.ensures c.fix_at.ensures

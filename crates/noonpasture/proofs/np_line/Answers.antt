@@ -1,0 +1,6 @@
+-- `noonpasture::np_line` meets its contract: the call's own.
+use borrow.Author.Rules.{rules}
+use Rattle.noonpasture.proofs.np_line.Goals as goal
+
+pub returns : goal.returns
+returns c = c.line_part.ensures

@@ -1,7 +1,6 @@
 // Types of what is known of a sequence, for the crates above, and no function: see specs/ and proofs/.
 #![tactic(auto)]
 
-
 // The orbit: its preperiod, and its period less 1, so that 2^64 fits.
 #[derive(Clone, Copy)]
 pub struct Orbit {

@@ -21,16 +21,15 @@ returns-then-p-eq0 t c =
 
 -- what is left is not 0, and no more than what 8 rounds leave
 pub finish-rest-requires : goal.finish-rest-requires
-finish-rest-requires t c =
-    (
-      omega (
-        arith,
-        rounded_within c.rounds_on-p.ensures.rounded,
-        (rounded_rounds (rounded_add c.four_rounds-p4.ensures c.four_rounds-p8.ensures)).left,
-        c.if-p-eq0.false,
-      ),
-      tt,
-    )
+finish-rest-requires t c = (
+  omega (
+    arith,
+    rounded_within c.rounds_on-p.ensures.rounded,
+    (rounded_rounds (rounded_add c.four_rounds-p4.ensures c.four_rounds-p8.ensures)).left,
+    c.if-p-eq0.false,
+  ),
+  tt,
+)
 
 pub returns : goal.returns
 returns t c =

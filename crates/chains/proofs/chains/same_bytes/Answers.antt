@@ -12,11 +12,10 @@ returns-then-bytes-start c =
     sym (c.loop-i.invariant.1 ∙ left_differs _ c.loop-i-test.true (c.requires.start_le_at, c.requires.n_in_bounds) c.if-bytes-start.true)
 
 pub loop-i-preserved : goal.loop-i-preserved
-loop-i-preserved c =
-    (
-      omega (arith, c.loop-i-test.true),
-      c.loop-i.invariant.1 ∙ left_next _ c.loop-i-test.true (c.requires.start_le_at, c.requires.n_in_bounds) c.if-bytes-start.false,
-    )
+loop-i-preserved c = (
+  omega (arith, c.loop-i-test.true),
+  c.loop-i.invariant.1 ∙ left_next _ c.loop-i-test.true (c.requires.start_le_at, c.requires.n_in_bounds) c.if-bytes-start.false,
+)
 
 pub returns : goal.returns
 returns c = sym (c.loop-i.invariant.1 ∙ left_none _ _ _ _ c.loop-i-test.false)

@@ -1,10 +1,10 @@
 -- Every map of i steps is one that rounds from the start leave, since i rounds and one more leave no index: so `Performed` from
 -- the start says of a map no more than `Walks` does, and no contract on a map alone could tell in which order it was made.
-use Rattle.std.proofs.Common.{◌≡◌, ℕ, zero, suc, ◌+◌, ◌*◌, ◌/◌, ◌%◌, ◌^◌, ◌<◌, sym, refl, ap, ◌∙◌, subst, mod-eq_of_lt, arith}
+use Rattle.std.proofs.Common.{◌≡◌, ℕ, zero, suc, ◌/◌, ◌^◌, ◌<◌, sym, refl, ◌∙◌, mod-eq_of_lt, arith}
 use native.Mathlib.Nat.{div-eq_of_lt}
 use Rattle.affine.specs.declared.Affine.{Affine}
 use Rattle.affine.specs.declared.Progress.{Progress}
-use Rattle.affine.specs.Affine.{apply, iterate, Walks, Composes}
+use Rattle.affine.specs.Affine.{Walks}
 use Rattle.affine.specs.Trace.{start_of, OneRound, Performed, next, Traced}
 use Rattle.affine.proofs.Walking.{walks_as}
 use Rattle.affine.proofs.Trace.{row_rounded, trace}

@@ -1,6 +1,6 @@
 -- The lines of document 01's archive by number, computed.
 use mathlib.Core.Path.{◌≡◌, refl}
-use mathlib.Core.List.{List, [], ◌∷◌, ◌++◌, map}
+use mathlib.Core.List.{[], ◌∷◌, ◌++◌, map}
 use Prim.Native.Nat.{ℕ}
 use Rattle.generator.specs.Recurrence.{modulus}
 use Rattle.generator.specs.Check.{refusal_of}

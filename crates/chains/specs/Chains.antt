@@ -1,6 +1,6 @@
 -- Chains of parts of some bytes. A link is a part's offset and 1 more, 0 for none. `head` has the newest link of each slot,
 -- `next` the link behind the one at offset s, at s / 12: parts of 12 bytes or more don't share an entry.
-use Rattle.std.specs.Prelude.{◌≡◌, ℕ, zero, suc, ◌+◌, ◌-◌, ◌*◌, ◌/◌, ◌<◌, ◌≤◌, Bool, false, ◌||◌, List, length, take, drop, slice_index, slice_range, slice_set}
+use Rattle.std.specs.Prelude.{◌≡◌, ℕ, zero, suc, ◌+◌, ◌*◌, ◌/◌, ◌<◌, ◌≤◌, Bool, false, ◌||◌, List, length, take, drop, slice_index, slice_range, slice_set}
 use Rattle.fields.specs.Line.{same_bytes}
 
 -- the bytes at offset s start with the part

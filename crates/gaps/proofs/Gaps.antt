@@ -1,7 +1,5 @@
 -- The gap of two numbers of a generator. An odd multiplier has no preperiod, so what occurs recurs, and the search that finds a
 -- number's index has found the period on its way; the rest is said of any sequence and any period in `sequences`.
-use denote.Enum.Declared.{tag_of}
-use Rattle.sequences.specs.contracts.Indices.{the_type}
 use Rattle.sequences.specs.declared.Indices.{Indices}
 use Rattle.sequences.specs.declared.Indices.TheVariants as indices
 use Rattle.sequences.specs.Occurrences.{IndicesAre}

@@ -12,8 +12,6 @@ use Rattle.generator.specs.declared.Kind.{Kind}
 use Rattle.generator.specs.declared.Kind.TheVariants as kind
 use Rattle.generator.specs.Recurrence.{kind_at, kind_of, modulus_of, modulus}
 use Rattle.generator.specs.Check.{refusal_of, width_refused, operand_refused, parity_refusal}
-use Rattle.generator.specs.Linear.{Linear}
-use Rattle.generator.specs.Prime.{Prime}
 use Rattle.generator.specs.Kinds.{OfKind, KindIs}
 
 -- The width of each kind.

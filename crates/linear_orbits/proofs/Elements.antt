@@ -1,6 +1,6 @@
 -- A linear generator as a sequence: its elements have n places; with an odd multiplier it is isometric, since an odd
 -- factor cancels; with the multiplier 2 ^ v times an odd number each step moves a difference v places up.
-use Rattle.std.proofs.Common.{◌≡◌, ℕ, zero, suc, ◌+◌, ◌-◌, ◌*◌, ◌%◌, ◌^◌, ◌<◌, ◌≤◌, ◌↔◌, le_refl, lt_of_lt_of_le, mod-lt, arith, pow_pos, pow_mono}
+use Rattle.std.proofs.Common.{◌≡◌, ℕ, zero, suc, ◌+◌, ◌*◌, ◌%◌, ◌^◌, ◌<◌, ◌≤◌, ◌↔◌, le_refl, lt_of_lt_of_le, mod-lt, arith, pow_pos, pow_mono}
 use mathlib.Core.Logic.{by_cases}
 use native.Mathlib.Decide.{ℕ_discrete}
 use Rattle.words.specs.Alpha.{Alpha}

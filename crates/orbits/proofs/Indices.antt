@@ -8,7 +8,6 @@ use Rattle.refusals.specs.declared.Refusal.{Refusal}
 use Rattle.generator.specs.Recurrence.{modulus, element}
 use Rattle.refusals.specs.Refusals.{number_of}
 use Rattle.generator.specs.Check.{refusal_of}
-use Rattle.powers.specs.Prime.{prime}
 use Rattle.refusals.proofs.Replies.{number_suc, number_nonzero}
 use Rattle.orbits.specs.declared.IndexAnswer.TheVariants.{At, Never, Refused}
 use Rattle.orbits.specs.Index.{plain_index, IndexPromise}

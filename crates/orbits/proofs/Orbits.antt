@@ -3,7 +3,7 @@
 use Rattle.generator.specs.declared.Kind.{Kind}
 use Rattle.generator.specs.declared.Kind.TheVariants as kind
 use Rattle.sequences.specs.declared.Orbit.{Orbit}
-use Rattle.std.proofs.Common.{◌≡◌, ℕ, suc, ◌+◌, ◌-◌, ◌%◌, ◌^◌, ◌<◌, ◌≤◌, sym, refl, ap, ◌∙◌, ⊎_elim, le_trans, add-one, arith}
+use Rattle.std.proofs.Common.{◌≡◌, ℕ, suc, ◌+◌, ◌%◌, ◌^◌, ◌<◌, ◌≤◌, sym, refl, ap, ◌∙◌, ⊎_elim, le_trans, add-one, arith}
 use Rattle.words.proofs.Congruence.{mod_two}
 use Rattle.sequences.specs.Orbit.{IsOrbit, exponent_of, IsPower, OrbitIs, period_of, preperiod_of}
 use Rattle.sequences.proofs.Orbits.{preperiod_is, period_is, exponent_is, orbit_is_never, orbit_only, orbit_room}
@@ -16,7 +16,6 @@ use Rattle.refusals.specs.Refusals.{number_of}
 use Rattle.generator.specs.Check.{refusal_of}
 use Rattle.generator.specs.Linear.{Linear}
 use Rattle.generator.specs.Prime.{Prime}
-use Rattle.powers.specs.Prime.{prime}
 use Rattle.generator.proofs.Elements.{element_follows}
 use Rattle.refusals.proofs.Replies.{number_suc, number_nonzero}
 use Rattle.orbits.specs.declared.OrbitAnswer.TheVariants as answer

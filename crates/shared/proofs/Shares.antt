@@ -1,16 +1,13 @@
 -- What two runs share, by one search. Both generators have the steps of one rule, so that the laws of two sequences of one step
 -- apply. Where the second seed stands at index j of the first generator, both go round one circle, and the second run starts at
 -- the place j + (its first index); otherwise the runs are on different circles.
-use denote.Enum.Declared.{tag_of}
 use mathlib.Core.Path.{◌≡◌, refl, sym, ◌∙◌}
-use mathlib.Core.Logic.{◌⊎◌}
 use Prim.Native.Nat.{ℕ, suc, ◌+◌, ◌%◌, ◌≤◌}
 use native.Mathlib.Omega.{arith}
 use borrow.Author.Tests.{ne_eqb}
 use Rattle.words.proofs.Congruence.{Congruent, same_sym, same_trans, same_refl, same_add, same_regroup}
 use Rattle.sequences.specs.declared.Indices.{Indices}
 use Rattle.sequences.specs.declared.Indices.TheVariants as indices
-use Rattle.sequences.specs.contracts.Indices.{the_type}
 use Rattle.sequences.specs.Index.{Located, Absent}
 use Rattle.sequences.specs.Orbit.{IsOrbit}
 use Rattle.sequences.specs.Gap.{Ahead}

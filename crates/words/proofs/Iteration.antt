@@ -1,6 +1,6 @@
 -- Newton's iteration doubles the places of an inverse. Let y = a x = t Q + 1 with Q = 2 ^ k, and s = 2 - y. Modulo Q Q
 -- the square y y is 2 t Q + 1, so y s = 2 y - y y = 1. The subtraction is undone by adding y y on both sides.
-use Rattle.std.proofs.Common.{◌≡◌, ℕ, ◌+◌, ◌*◌, ◌/◌, ◌%◌, ◌^◌, ◌<◌, ◌≤◌, sym, refl, ap, ◌∙◌, ap₂, le_trans, lt_of_lt_of_le, mod-eq_of_lt, div-add-mod', arith, lit<, pow_mono, pow-add}
+use Rattle.std.proofs.Common.{◌≡◌, ℕ, ◌+◌, ◌*◌, ◌/◌, ◌%◌, ◌^◌, ◌≤◌, sym, refl, ap, ◌∙◌, ap₂, le_trans, lt_of_lt_of_le, mod-eq_of_lt, div-add-mod', arith, lit<, pow_mono, pow-add}
 use Rattle.words.specs.Newton.{Doubles}
 use Rattle.words.proofs.Congruence.{Congruent, from_multiples, same_refl, same_regroup, same_trans, same_sym, same_result, same_add, same_add_cancel, same_scale, same_lower}
 

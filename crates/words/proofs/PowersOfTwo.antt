@@ -1,6 +1,6 @@
 -- Powers of two as factors: a number is above none of its powers, a factor cancels against one in the modulus, and a product with
 -- a number of v trailing zeros agrees in v places more than the factors do.
-use Rattle.std.proofs.Common.{◌≡◌, ℕ, zero, suc, ◌+◌, ◌-◌, ◌*◌, ◌/◌, ◌%◌, ◌^◌, ◌<◌, ◌↔◌, sym, refl, ap, ◌∙◌, ⊎_elim, le_of_eq, mul_assoc, mul_comm, add_comm, le_antisymm, div-add-mod', arith, pow_pos, pow-add}
+use Rattle.std.proofs.Common.{◌≡◌, ℕ, zero, suc, ◌+◌, ◌*◌, ◌/◌, ◌%◌, ◌^◌, ◌<◌, ◌↔◌, sym, refl, ap, ◌∙◌, ⊎_elim, le_of_eq, mul_assoc, mul_comm, add_comm, le_antisymm, div-add-mod', arith, pow_pos, pow-add}
 use mathlib.Core.Logic.Iff
 use native.Mathlib.Nat.{mul-mod_left, le_of_mul-le-mul_left}
 use Rattle.words.specs.Alpha.{Alpha}

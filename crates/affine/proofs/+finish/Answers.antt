@@ -1,8 +1,6 @@
 -- `affine::finish` meets its contract: with no index left after 4 or 8 rounds or after those that follow, all is done; otherwise it
 -- goes on with what these leave. The measure is the index left.
-use Rattle.std.proofs.Common.{ℕ, ◌<◌, arith}
-use Rattle.affine.specs.declared.Progress.{Progress}
-use Rattle.affine.specs.Trace.{progress_of, Rounded}
+use Rattle.std.proofs.Common.{arith}
 use Rattle.affine.proofs.Trace.{rounded_rounds, rounded_within, rounded_add, performed_now, performed_later}
 use Rattle.affine.proofs.+finish.Goals as goal
 

@@ -1,5 +1,4 @@
 -- `affine::compose` meets its contract.
-use Rattle.std.proofs.Common.{rules}
 use Rattle.affine.proofs.Walking.{composed}
 use Rattle.affine.proofs.compose.Goals as goal
 

@@ -1,5 +1,4 @@
 -- `affine::four_rounds` meets its contract.
-use Rattle.std.proofs.Common.{rules}
 use Rattle.affine.specs.Trace.{none, next}
 use Rattle.affine.proofs.four_rounds.Goals as goal
 

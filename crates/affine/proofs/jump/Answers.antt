@@ -1,5 +1,4 @@
 -- `affine::jump` meets its contract: nothing to do, or the rounds from the start.
-use Rattle.std.proofs.Common.{rules}
 use Rattle.affine.proofs.Trace.{performed_now, jumps}
 use Rattle.affine.proofs.jump.Goals as goal
 

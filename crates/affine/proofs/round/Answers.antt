@@ -1,5 +1,5 @@
 -- `affine::round` meets its contract.
-use Rattle.std.proofs.Common.{arith, rules}
+use Rattle.std.proofs.Common.{arith}
 use Rattle.affine.proofs.Trace.{one_round}
 use Rattle.affine.proofs.round.Goals as goal
 

@@ -1,7 +1,4 @@
 -- `affine::rounds_on` meets its contract: the places after its calls are 4, 8, 12, 16, 20 and 24 rounds on.
-use Rattle.std.proofs.Common.{rules}
-use Rattle.affine.specs.declared.Progress.{Progress}
-use Rattle.affine.specs.Trace.{Rounded}
 use Rattle.affine.proofs.Trace.{rounded_add}
 use Rattle.affine.proofs.rounds_on.Goals as goal
 

@@ -1,5 +1,4 @@
 -- `archive::checked` meets its contract: an archive that is too long is refused, and any other by its lines.
-use borrow.Author.Rules.{rules}
 use Rattle.archive.proofs.TwinRefusal.{check_long}
 use Rattle.archive.proofs.checked.Goals as goal
 

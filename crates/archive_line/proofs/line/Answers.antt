@@ -1,5 +1,4 @@
 -- `archive_line::line` meets its contract: the part, by its start and its length, is the line itself.
-use borrow.Author.Rules.{rules}
 use Rattle.archive_line.proofs.PartOfLine.{line_of_part}
 use Rattle.archive_line.proofs.line.Goals as goal
 

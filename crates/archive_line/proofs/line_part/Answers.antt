@@ -1,5 +1,4 @@
 -- `archive_line::line_part` meets its contract: past the check the part is that of the line.
-use borrow.Author.Rules.{rules}
 use Rattle.archive.specs.declared.ArchiveCheck.TheVariants.{Refused}
 use Rattle.archive.proofs.Checking.{check_as, check_accepted}
 use Rattle.archive_line.proofs.PartOfLine.{part_refused}

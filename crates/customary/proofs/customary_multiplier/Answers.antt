@@ -1,5 +1,4 @@
 -- `generator::customary_multiplier` meets its contract.
-use borrow.Author.Rules.{rules}
 use borrow.Author.Tests.{lt-ltb, le-ltb}
 use Rattle.customary.specs.Customary.{customary_refusal}
 use Rattle.customary.proofs.OddPowers.{customary_refused, customary_given}

@@ -1,13 +1,9 @@
 -- `gaps::gap` meets its contract: where both numbers recur, the steps are those between their indices; otherwise one is absent.
-use borrow.Author.Rules.{rules}
-use mathlib.Core.Path.{◌≡◌, subst}
+use mathlib.Core.Path.{subst}
 use mathlib.Core.Logic.{inl, inr}
 use native.Mathlib.Omega.{arith}
-use Rattle.sequences.specs.declared.Indices.TheVariants as indices
 use Rattle.sequences.specs.Occurrences.{IndicesAre}
-use Rattle.generator.specs.Recurrence.{modulus, element}
 use Rattle.refusals.proofs.Replies.{number_accepted, number_refused}
-use Rattle.gaps.specs.Gap.{gap_refusal}
 use Rattle.gaps.proofs.Gaps.{
   gap_accepted,
   gap_refused,

@@ -1,5 +1,4 @@
 -- `gaps::gap_checked` meets its contract: both checks, in the table's order.
-use borrow.Author.Rules.{rules}
 use Rattle.gaps.specs.Gap.{gap_refusal}
 use Rattle.gaps.proofs.gap_checked.Goals as goal
 

@@ -1,5 +1,4 @@
 -- `generator::checked` meets its contract: the kind's module has the conditions on the operands.
-use borrow.Author.Rules.{rules}
 use mathlib.Core.Path.{◌∙◌}
 use borrow.Author.Tests.{lt-ltb}
 use Rattle.generator.specs.Check.{refusal_of}

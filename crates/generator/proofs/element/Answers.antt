@@ -1,5 +1,4 @@
 -- `generator::element` meets its contract.
-use borrow.Author.Rules.{rules}
 use Rattle.refusals.proofs.Replies.{number_accepted, number_refused, value_refused, value_given}
 use Rattle.generator.proofs.element.Goals as goal
 

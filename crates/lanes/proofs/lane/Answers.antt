@@ -1,8 +1,5 @@
 -- `lanes::lane` meets its contract.
-use borrow.Author.Rules.{rules}
-use mathlib.Core.Path.{◌≡◌}
 use Rattle.refusals.proofs.Replies.{number_accepted, number_refused}
-use Rattle.lanes.specs.Lane.{lane_refusal}
 use Rattle.lanes.proofs.Promises.{lane_refused, lane_given}
 use Rattle.lanes.proofs.lane.Goals as goal
 

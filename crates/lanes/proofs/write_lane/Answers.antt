@@ -1,8 +1,5 @@
 -- `lanes::write_lane` meets its contract: the lane is an accepted run, so that of what writing a line refuses only 8 is left.
-use borrow.Author.Rules.{rules}
-use mathlib.Core.Path.{◌≡◌}
 use Rattle.refusals.proofs.Replies.{number_accepted, number_refused}
-use Rattle.lanes.specs.Lane.{lane_refusal}
 use Rattle.lanes.proofs.Promises.{write_lane_refused, write_lane_written}
 use Rattle.lanes.proofs.write_lane.Goals as goal
 

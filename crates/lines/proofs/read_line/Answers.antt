@@ -2,8 +2,6 @@
 use mathlib.Core.Path.{refl}
 use Rattle.refusals.proofs.Replies.{number_accepted, number_refused}
 use Rattle.lines.proofs.Reading.{read_malformed, read_refused, read_accepted}
-use borrow.Author.Rules.{rules}
-use borrow.Author.Tests.{not-true, not-false}
 use Rattle.lines.proofs.read_line.Goals as goal
 
 pub returns-then-not-read : goal.returns-then-not-read

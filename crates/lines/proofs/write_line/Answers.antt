@@ -1,10 +1,7 @@
 -- `lines::write_line` meets its contract.
-use mathlib.Core.Path.{◌≡◌}
 use Rattle.refusals.proofs.Replies.{number_accepted, number_refused, refused_else}
-use Rattle.runs.specs.Run.{run_refusal}
 use Rattle.lines.specs.WriteLine.{write_refusal}
 use Rattle.lines.proofs.Written.{write_refused, write_short, write_done}
-use borrow.Author.Rules.{rules}
 use Rattle.lines.proofs.write_line.Goals as goal
 
 pub returns-in-Refused : goal.returns-in-Refused

@@ -1,7 +1,4 @@
 -- `lookup::lookup` meets its contract: the check refuses, or the search finds.
-use borrow.Author.Rules.{rules}
-use mathlib.Core.Path.{◌≡◌}
-use Rattle.archive.specs.Check.{check_of}
 use Rattle.archive.specs.declared.ArchiveCheck.TheVariants.{Refused}
 use Rattle.archive.proofs.Checking.{check_as, check_accepted}
 use Rattle.lookup.proofs.EarliestLocation.{lookup_found, lookup_refused_lem}

@@ -1,11 +1,7 @@
 -- `low_places::index_places` meets its contract.
-use borrow.Author.Rules.{rules}
-use mathlib.Core.Path.{◌≡◌, subst}
-use Prim.Native.Nat.{suc}
-use Rattle.sequences.specs.Occurrences.{low, Recurring, IndicesAre}
-use Rattle.generator.specs.Recurrence.{modulus, element}
+use mathlib.Core.Path.{subst}
+use Rattle.sequences.specs.Occurrences.{IndicesAre}
 use Rattle.refusals.proofs.Replies.{number_accepted, number_refused}
-use Rattle.low_places.specs.Places.{places_refusal}
 use Rattle.low_places.proofs.Places.{places_accepted, places_refused, every_power, places_once, places_every, places_never}
 use Rattle.low_places.proofs.index_places.Goals as goal
 

@@ -1,5 +1,4 @@
 -- `low_places::places_checked` meets its contract: both checks, in the table's order.
-use borrow.Author.Rules.{rules}
 use Rattle.refusals.proofs.Replies.{number_accepted, refused_first}
 use Rattle.low_places.specs.Places.{places_refusal}
 use Rattle.low_places.proofs.places_checked.Goals as goal

@@ -1,5 +1,4 @@
 -- `noonpasture::np_element` meets its contract: the call's own, in plain numbers.
-use borrow.Author.Rules.{rules}
 use mathlib.Core.Path.{◌∙◌}
 use Rattle.noonpasture.proofs.np_element.Goals as goal
 

@@ -1,5 +1,4 @@
 -- `noonpasture::np_gap` meets its contract: the call's own, in plain numbers.
-use borrow.Author.Rules.{rules}
 use Rattle.noonpasture.proofs.np_gap.Goals as goal
 
 pub returns : goal.returns

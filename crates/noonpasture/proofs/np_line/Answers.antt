@@ -1,5 +1,4 @@
 -- `noonpasture::np_line` meets its contract: the call's own.
-use borrow.Author.Rules.{rules}
 use Rattle.noonpasture.proofs.np_line.Goals as goal
 
 pub returns : goal.returns

@@ -1,6 +1,4 @@
 -- `orbits::index` meets its contract: each kind has its own.
-use Rattle.std.proofs.Common.{◌≡◌, rules}
-use Rattle.generator.specs.Check.{refusal_of}
 use Rattle.generator.proofs.Refusals.{kind_told}
 use Rattle.refusals.proofs.Replies.{number_accepted, number_refused}
 use Rattle.orbits.proofs.Indices.{index_refused}

@@ -1,6 +1,5 @@
 -- `orbits::orbit` meets its contract: the orbit is that of every kind, and the kind tells what the reply carries.
-use Rattle.std.proofs.Common.{◌≡◌, ◌∙◌, arith, rules}
-use Rattle.generator.specs.Check.{refusal_of}
+use Rattle.std.proofs.Common.{◌∙◌, arith}
 use Rattle.generator.proofs.Refusals.{kind_told}
 use Rattle.refusals.proofs.Replies.{number_accepted, number_refused}
 use Rattle.orbits.proofs.Orbits.{orbit_refused, orbit_power, prime_last, orbit_linear, orbit_prime}

@@ -1,5 +1,4 @@
 -- `generator::predecessor` meets its contract.
-use Rattle.std.proofs.Common.{rules}
 use Rattle.refusals.proofs.Replies.{number_accepted, number_refused}
 use Rattle.predecessors.proofs.StepBack.{predecessor_refused, predecessor_given}
 use Rattle.predecessors.proofs.predecessor.Goals as goal

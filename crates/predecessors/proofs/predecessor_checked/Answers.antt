@@ -1,7 +1,6 @@
 -- `predecessors::predecessor_checked` meets its contract: each way out rewrites the refusal table by the tests that led there.
-use Rattle.std.proofs.Common.{◌≡◌, sym, ◌∙◌, rules}
+use Rattle.std.proofs.Common.{sym, ◌∙◌}
 use Rattle.refusals.proofs.Replies.{number_accepted, refused_first}
-use Rattle.generator.specs.Check.{refusal_of}
 use Rattle.predecessors.specs.Predecessor.{predecessor_refusal}
 use Rattle.predecessors.proofs.predecessor_checked.Goals as goal
 

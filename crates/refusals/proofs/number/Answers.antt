@@ -1,5 +1,4 @@
 -- `refusals::number` meets its contract: a number for each case.
-use borrow.Author.Rules.{rules}
 use mathlib.Core.Path.{sym, ap}
 use Rattle.refusals.specs.Refusals.{number_of}
 use Rattle.refusals.proofs.number.Goals as goal

@@ -1,5 +1,4 @@
 -- `generator::plain::of_value` meets its contract.
-use borrow.Author.Rules.{rules}
 use Rattle.refusals.proofs.of_value.Goals as goal
 
 pub returns-in-Value : goal.returns-in-Value

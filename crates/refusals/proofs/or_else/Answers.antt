@@ -1,5 +1,4 @@
 -- `generator::checks::or_else` meets its contract: a refusal's number is not 0, so what comes after it changes nothing.
-use borrow.Author.Rules.{rules}
 use mathlib.Core.Path.{refl}
 use Rattle.refusals.proofs.Replies.{refused_first}
 use Rattle.refusals.proofs.or_else.Goals as goal

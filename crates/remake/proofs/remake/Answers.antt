@@ -1,9 +1,7 @@
 -- `lines::remake` meets its contract.
-use mathlib.Core.Path.{◌≡◌}
 use native.Mathlib.Omega.{arith}
 use borrow.Author.Rules.{rules}
 use Rattle.refusals.proofs.Replies.{number_accepted, number_refused}
-use Rattle.runs.specs.Run.{run_refusal}
 use Rattle.runs.proofs.Runs.{valid_run}
 use Rattle.remake.proofs.Remakes.{remake_refused, remake_none, remake_done}
 use Rattle.remake.proofs.remake.Goals as goal

@@ -1,9 +1,6 @@
 -- `lines::checked` meets its contract: each way out rewrites the refusal table by the tests that led there.
-use borrow.Author.Rules.{rules}
-use mathlib.Core.Path.{◌≡◌}
 use native.Mathlib.Omega.{arith}
 use borrow.Author.Tests.{eq-eqb, ne_eqb, le-leb, lt-leb}
-use Rattle.generator.specs.Check.{refusal_of}
 use Rattle.refusals.proofs.Replies.{number_accepted, refused_first}
 use Rattle.runs.specs.Run.{run_refusal}
 use Rattle.runs.proofs.Runs.{sum_high, sum_low}

@@ -1,6 +1,5 @@
 -- `search::settle` meets its contract: the loop's invariant is `Loop`, with a law for each way through.
-use Rattle.std.proofs.Common.{rules}
-use Rattle.search.proofs.Rounds.{Loop, loop_start, loop_stays, loop_doubles, loop_stops, loop_done}
+use Rattle.search.proofs.Rounds.{Loop}
 use Rattle.search.proofs.settle.Given as goal
 
 abbrev pub invariant-loop-left : goal.invariant-loop-left

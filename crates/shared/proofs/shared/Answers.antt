@@ -1,8 +1,5 @@
 -- `shared::shared` meets its contract.
-use borrow.Author.Rules.{rules}
-use mathlib.Core.Path.{◌≡◌}
 use Rattle.refusals.proofs.Replies.{number_accepted, number_refused}
-use Rattle.shared.specs.Shared.{shared_refusal}
 use Rattle.shared.proofs.Shares.{shared_refused, shared_given}
 use Rattle.shared.proofs.shared.Goals as goal
 

@@ -1,7 +1,4 @@
 -- `summary::summary` meets its contract.
-use borrow.Author.Rules.{rules}
-use mathlib.Core.Path.{◌≡◌}
-use Rattle.archive.specs.Check.{check_of}
 use Rattle.archive.specs.declared.ArchiveCheck.TheVariants.{Refused}
 use Rattle.archive.proofs.Checking.{check_as, check_accepted}
 use Rattle.summary.proofs.Summaries.{summary_summed, summary_refused_lem}

@@ -1,8 +1,5 @@
 -- `variety::variety` meets its contract.
-use borrow.Author.Rules.{rules}
-use mathlib.Core.Path.{◌≡◌}
 use Rattle.refusals.proofs.Replies.{number_accepted, number_refused}
-use Rattle.runs.specs.Run.{run_refusal}
 use Rattle.variety.proofs.Varieties.{variety_refused, variety_given}
 use Rattle.variety.proofs.variety.Goals as goal
 

@@ -1,5 +1,4 @@
 -- `words::first_difference` meets its contract: α of the difference modulo 2^64.
-use Rattle.std.proofs.Common.{rules}
 use Rattle.words.proofs.Places.{alpha_difference}
 use Rattle.words.proofs.first_difference.Goals as goal
 

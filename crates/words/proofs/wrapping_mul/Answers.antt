@@ -1,5 +1,5 @@
 -- `words::wrapping_mul` meets its contract: the three products that count, each of two halves.
-use Rattle.std.proofs.Common.{arith, rules}
+use Rattle.std.proofs.Common.{arith}
 use Rattle.words.proofs.Halves.{halves_fit, halves_product}
 use Rattle.words.proofs.wrapping_mul.Goals as goal
 

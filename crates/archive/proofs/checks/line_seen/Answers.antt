@@ -1,11 +1,9 @@
 -- `archive::checks::line_seen` meets its contract: the line's slot is that of its run, and what its chain tells is told of all
 -- lines before.
-use borrow.Author.Rules.{rules}
 use mathlib.Core.Path.{◌≡◌, sym, ap, ◌∙◌, subst}
 use mathlib.Core.List.{List}
 use Prim.Native.Nat.{ℕ, ◌<◌}
 use native.Mathlib.Omega.{arith}
-use lib.ListN.{length}
 use Rattle.chains.specs.Hash.{slot_of}
 use Rattle.chains.proofs.Hashing.{slot_within}
 use Rattle.runs.specs.declared.Run.{Run}

@@ -1,5 +1,4 @@
 -- `archive::checks::long_checked` meets its contract: 4,096 slots and 5,462 entries are room enough, and all are 0.
-use borrow.Author.Rules.{rules}
 use native.Mathlib.Omega.{arith}
 use Rattle.archive.proofs.Chaining.{zeros_chained}
 use Rattle.archive.proofs.checks.long_checked.Goals as goal

@@ -1,5 +1,4 @@
 -- `archive::checks::short_checked` meets its contract: 64 slots and 86 entries are room enough, and all are 0.
-use borrow.Author.Rules.{rules}
 use native.Mathlib.Omega.{arith}
 use Rattle.archive.proofs.Chaining.{zeros_chained}
 use Rattle.archive.proofs.checks.short_checked.Goals as goal

@@ -1,7 +1,6 @@
 -- `archive::parts::next_run` meets its contract: the part read is the line, which is accepted.
 use Rattle.archive.proofs.Splitting.{part_within}
 use Rattle.archive.proofs.Runs.{run_reads, run_read}
-use borrow.Author.Rules.{rules}
 use Rattle.archive.proofs.parts.next_run.Goals as goal
 
 pub slice_bounds-accepted_run-end : goal.slice_bounds-accepted_run-end

@@ -1,12 +1,8 @@
 -- `archive_line::by_number::part_of_line` meets its contract: the loop is a walk whose state is where the next line starts.
-use Prim.Native.Nat.{◌-◌}
 use native.Mathlib.Omega.{arith}
-use lib.ListN.{length}
 use Rattle.archive.proofs.Splitting.{part_within, part_advances}
-use Rattle.archive.proofs.Folding.{Fold, fold_start}
-use Rattle.archive_line.specs.Line.{part_from}
+use Rattle.archive.proofs.Folding.{fold_start}
 use Rattle.archive_line.proofs.PartOfLine.{part_found, part_reached, part_passed, part_missing}
-use borrow.Author.Rules.{rules}
 use Rattle.archive_line.proofs.by_number.part_of_line.Goals as goal
 
 pub loop-at-init : goal.loop-at-init

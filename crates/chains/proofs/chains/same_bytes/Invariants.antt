@@ -1,7 +1,7 @@
 -- `chains::chains::same_bytes` meets its contract: what is left of the two stretches decides.
-use Rattle.std.proofs.Common.{◌≡◌, ◌-◌, ◌≤◌, take, drop, sym, ◌∙◌, arith, rules}
+use Rattle.std.proofs.Common.{◌≡◌, ◌-◌, ◌≤◌, take, drop}
 use Rattle.fields.specs.Line.{same_bytes}
-use Rattle.chains.proofs.Comparing.{left, left_all, left_next, left_differs, left_none}
+use Rattle.chains.proofs.Comparing.{left}
 use Rattle.chains.proofs.chains.same_bytes.Given as goal
 
 abbrev pub invariant-loop-i : goal.invariant-loop-i

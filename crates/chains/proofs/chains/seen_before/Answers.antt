@@ -1,5 +1,5 @@
 -- `chains::chains::seen_before` meets its contract: it tells what the walk told, and stores the two entries.
-use Rattle.std.proofs.Common.{refl, arith, rules}
+use Rattle.std.proofs.Common.{refl, arith}
 use Rattle.chains.proofs.chains.seen_before.Goals as goal
 
 pub stand_among-seen-requires : goal.stand_among-seen-requires

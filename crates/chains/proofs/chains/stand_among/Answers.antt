@@ -1,6 +1,6 @@
 -- `chains::chains::stand_among` meets its contract: the links from the one looked at on decide.
-use Rattle.std.proofs.Common.{◌-◌, ◌/◌, refl, arith, rules}
-use Rattle.chains.proofs.Walking.{Walk, walk_here, walk_falls, walk_next, walk_end}
+use Rattle.std.proofs.Common.{◌-◌, ◌/◌, refl, arith}
+use Rattle.chains.proofs.Walking.{walk_here, walk_falls, walk_next, walk_end}
 use Rattle.chains.proofs.chains.stand_among.Goals as goal
 
 pub loop-link-init : goal.loop-link-init

@@ -1,7 +1,6 @@
 -- `chains::hash::slot` meets its contract: the hash so far, over the numbers left, is the hash of all.
-use Rattle.std.proofs.Common.{◌≡◌, ◌-◌, ◌^◌, ◌<◌, length, drop, ◌∙◌, arith, rules}
+use Rattle.std.proofs.Common.{◌≡◌, ◌-◌, ◌^◌, ◌<◌, length, drop}
 use Rattle.chains.specs.Hash.{hash_from}
-use Rattle.chains.proofs.Hashing.{hash_next, hash_end, slot_fits, slot_is}
 use Rattle.chains.proofs.hash.slot.Given as goal
 
 abbrev pub invariant-loop-k : goal.invariant-loop-k

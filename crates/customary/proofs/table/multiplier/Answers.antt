@@ -1,5 +1,4 @@
 -- `generator::customary::multiplier` meets its contract.
-use borrow.Author.Rules.{rules}
 use Rattle.customary.proofs.OddPowers.{table_entry}
 use Rattle.customary.proofs.table.multiplier.Goals as goal
 

@@ -1,11 +1,7 @@
 -- `field::field_length` meets its contract. The loop's invariant: the digits counted and those of rest are all. The measure is
 -- rest.
 use borrow.Author.Rules.{rules}
-use mathlib.Core.Path.{◌≡◌}
-use Prim.Native.Nat.{◌+◌}
 use native.Mathlib.Omega.{arith}
-use lib.ListN.{length}
-use Rattle.decimals.specs.Digits.{digits_of}
 use Rattle.decimals.proofs.Digits.{digits_length, length_four}
 use Rattle.decimals.proofs.field.field_length.Goals as goal
 

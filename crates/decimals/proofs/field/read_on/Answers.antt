@@ -1,13 +1,9 @@
 -- `field::read_on` meets its contract. The loop's invariant: the bytes of the field are the digits of v, which fits, and
 -- what stands at i. The measure is what is left of the slice. Each way out is a law of `Reading`.
 use mathlib.Core.Path.{refl}
-use mathlib.Core.List.{◌++◌}
-use Prim.Native.Nat.{◌-◌}
 use native.Mathlib.Omega.{arith}
-use lib.ListN.{length, drop}
 use borrow.Author.Rules.{rules}
-use Rattle.decimals.specs.Digits.{digits_of}
-use Rattle.decimals.proofs.Reading.{ReadUpTo, number_read, no_delimiter, digit_read, no_number}
+use Rattle.decimals.proofs.Reading.{number_read, no_delimiter, digit_read, no_number}
 use Rattle.decimals.proofs.field.read_on.Goals as goal
 
 pub loop-i-init : goal.loop-i-init

@@ -1,13 +1,11 @@
 -- `field::write_digits` meets its contract. The loop's invariant: only the digits of rest, in front of i, lack, and the
 -- buffer is as long as it was. The measure is rest.
-use mathlib.Core.Path.{◌≡◌, refl}
-use mathlib.Core.List.{◌++◌}
+use mathlib.Core.Path.{refl}
 use native.Mathlib.Omega.{arith}
-use lib.ListN.{length, take, drop, length-set}
+use lib.ListN.{length-set}
 use borrow.Author.Rules.{rules}
-use Rattle.decimals.specs.Digits.{digits_of}
 use Rattle.decimals.proofs.Digits.{digits_nonempty}
-use Rattle.decimals.proofs.Writing.{Lacks, digit_written, last_written}
+use Rattle.decimals.proofs.Writing.{digit_written, last_written}
 use Rattle.decimals.proofs.field.write_digits.Goals as goal
 
 pub loop-rest-init : goal.loop-rest-init

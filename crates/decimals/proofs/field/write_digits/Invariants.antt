@@ -1,13 +1,10 @@
 -- `field::write_digits` meets its contract. The loop's invariant: only the digits of rest, in front of i, lack, and the
 -- buffer is as long as it was. The measure is rest.
-use mathlib.Core.Path.{◌≡◌, refl}
+use mathlib.Core.Path.{◌≡◌}
 use mathlib.Core.List.{◌++◌}
-use native.Mathlib.Omega.{arith}
-use lib.ListN.{length, take, drop, length-set}
-use borrow.Author.Rules.{rules}
+use lib.ListN.{length, take, drop}
 use Rattle.decimals.specs.Digits.{digits_of}
-use Rattle.decimals.proofs.Digits.{digits_nonempty}
-use Rattle.decimals.proofs.Writing.{Lacks, digit_written, last_written}
+use Rattle.decimals.proofs.Writing.{Lacks}
 use Rattle.decimals.proofs.field.write_digits.Given as goal
 
 abbrev pub invariant-loop-rest : goal.invariant-loop-rest

@@ -1,6 +1,4 @@
 -- `field::write_field` meets its contract: the delimiter is stored behind the room for the digits, and then the digits in front.
-use mathlib.Core.Path.{◌∙◌}
-use borrow.Author.Rules.{rules}
 use native.Mathlib.Omega.{arith}
 use lib.ListN.{length-set}
 use Rattle.decimals.proofs.Writing.{delimiter_written}

@@ -1,6 +1,5 @@
 -- `line::delimiter_before` meets its contract.
 use Rattle.fields.proofs.Codec.{delimiter_comma}
-use borrow.Author.Rules.{rules}
 use Rattle.fields.proofs.line.delimiter_before.Goals as goal
 
 pub returns : goal.returns

@@ -1,8 +1,5 @@
 -- `line::length` meets its contract: the loop's invariant is `CountedSoFar`.
-use Prim.Native.Nat.{◌-◌}
-use lib.ListN.{length}
-use Rattle.fields.proofs.Codec.{CountedSoFar, count_start, count_next, count_end}
-use borrow.Author.Rules.{rules}
+use Rattle.fields.proofs.Codec.{count_start, count_next, count_end}
 use Rattle.fields.proofs.line.length.Goals as goal
 
 pub loop-k-init : goal.loop-k-init

@@ -1,8 +1,7 @@
 -- `line::length` meets its contract: the loop's invariant is `CountedSoFar`.
 use Prim.Native.Nat.{◌-◌}
 use lib.ListN.{length}
-use Rattle.fields.proofs.Codec.{CountedSoFar, count_start, count_next, count_end}
-use borrow.Author.Rules.{rules}
+use Rattle.fields.proofs.Codec.{CountedSoFar}
 use Rattle.fields.proofs.line.length.Given as goal
 
 abbrev pub invariant-loop-k : goal.invariant-loop-k

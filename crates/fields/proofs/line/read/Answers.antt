@@ -4,8 +4,7 @@ use Prim.Native.Nat.{◌-◌}
 use lib.ListN.{length}
 use Rattle.decimals.specs.Field.{FieldOf}
 use Rattle.fields.proofs.Numbers.{delimiter_under}
-use Rattle.fields.proofs.Codec.{ReadSoFar, read_start, read_next, read_none, read_end}
-use borrow.Author.Rules.{rules}
+use Rattle.fields.proofs.Codec.{read_start, read_next, read_none, read_end}
 use Rattle.fields.proofs.line.read.Goals as goal
 
 pub loop-k-init : goal.loop-k-init

@@ -1,11 +1,7 @@
 -- `line::read` meets its contract: the loop's invariant is `ReadSoFar`, and each way out is one law.
-use mathlib.Core.Path.{subst}
 use Prim.Native.Nat.{◌-◌}
 use lib.ListN.{length}
-use Rattle.decimals.specs.Field.{FieldOf}
-use Rattle.fields.proofs.Numbers.{delimiter_under}
-use Rattle.fields.proofs.Codec.{ReadSoFar, read_start, read_next, read_none, read_end}
-use borrow.Author.Rules.{rules}
+use Rattle.fields.proofs.Codec.{ReadSoFar}
 use Rattle.fields.proofs.line.read.Given as goal
 
 abbrev pub invariant-loop-k : goal.invariant-loop-k

@@ -1,9 +1,5 @@
 -- `line::write` meets its contract: the loop's invariant is `FrontSoFar`.
-use Prim.Native.Nat.{◌-◌}
-use lib.ListN.{length, drop}
-use Rattle.fields.specs.Line.{fields_line}
-use Rattle.fields.proofs.Codec.{FrontSoFar, front_start, front_room, front_next, front_end, next_field, no_field_left}
-use borrow.Author.Rules.{rules}
+use Rattle.fields.proofs.Codec.{front_start, front_room, front_next, front_end, next_field, no_field_left}
 use Rattle.fields.proofs.line.write.Goals as goal
 
 pub loop-written-init : goal.loop-written-init

@@ -2,8 +2,7 @@
 use Prim.Native.Nat.{◌-◌}
 use lib.ListN.{length, drop}
 use Rattle.fields.specs.Line.{fields_line}
-use Rattle.fields.proofs.Codec.{FrontSoFar, front_start, front_room, front_next, front_end, next_field, no_field_left}
-use borrow.Author.Rules.{rules}
+use Rattle.fields.proofs.Codec.{FrontSoFar}
 use Rattle.fields.proofs.line.write.Given as goal
 
 abbrev pub invariant-loop-written : goal.invariant-loop-written

@@ -1,7 +1,4 @@
 -- `gaps::plain::of_gap` meets its contract.
-use borrow.Author.Rules.{rules}
-use mir.Syntax.{w64}
-use mir.ValLaws.{to_z-of_z}
 use Rattle.gaps.proofs.plain.of_gap.Goals as goal
 
 pub returns-in-Never : goal.returns-in-Never

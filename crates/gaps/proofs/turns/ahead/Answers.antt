@@ -1,5 +1,4 @@
 -- `gaps::turns::ahead` meets its contract: straight on, or past the end of the period once.
-use borrow.Author.Rules.{rules}
 use native.Mathlib.Omega.{arith}
 use Rattle.words.proofs.Congruence.{from_multiples}
 use Rattle.gaps.proofs.turns.ahead.Goals as goal

@@ -1,5 +1,4 @@
 -- `gaps::turns::signed` meets its contract.
-use borrow.Author.Rules.{rules}
 use Prim.Native.Nat.{◌-◌}
 use native.Mathlib.Omega.{arith}
 use Rattle.gaps.proofs.SignedCounts.{straight, taken_fits, back}

@@ -1,5 +1,4 @@
 -- `generator::kinds::next_of` meets its contract: each kind has its own.
-use borrow.Author.Rules.{rules}
 use Rattle.generator.proofs.Refusals.{kind_told}
 use Rattle.generator.proofs.Elements.{prime_below}
 use Rattle.generator.proofs.kinds.next_of.Goals as goal

@@ -1,5 +1,4 @@
 -- `generator::linear::element_at` meets its contract: the map of i steps at the seed, and then the low bits.
-use borrow.Author.Rules.{rules}
 use mathlib.Core.Path.{◌∙◌}
 use Rattle.generator.proofs.Walking.{element_walks}
 use Rattle.generator.proofs.linear.element_at.Goals as goal

@@ -1,5 +1,4 @@
 -- `generator::linear::next` meets its contract: the map of one step at x, and then the low bits.
-use borrow.Author.Rules.{rules}
 use mathlib.Core.Path.{◌∙◌}
 use Rattle.generator.proofs.Walking.{next_once}
 use Rattle.generator.proofs.linear.next.Goals as goal

@@ -1,11 +1,7 @@
 -- `lanes::checks::lane_checked` meets its contract: of each way out but the first and the last, one thing that a lane needs is missing.
-use borrow.Author.Rules.{rules}
-use mathlib.Core.Path.{◌≡◌, ◌∙◌}
+use mathlib.Core.Path.{◌∙◌}
 use native.Mathlib.Omega.{arith}
 use Rattle.refusals.proofs.Replies.{number_accepted, refused_first}
-use Rattle.generator.specs.declared.Kind.TheVariants as kind
-use Rattle.generator.specs.Recurrence.{kind_of}
-use Rattle.runs.specs.Run.{run_refusal}
 use Rattle.lanes.specs.Lane.{lane_refusal}
 use Rattle.lanes.proofs.Conditions.{lanes_refused, lanes_accepted, not_prime}
 use Rattle.lanes.proofs.checks.lane_checked.Goals as goal

@@ -1,5 +1,4 @@
 -- `lanes::split::count_of` meets its contract: the quotient is below the count, and is the count of the lane less 1.
-use borrow.Author.Rules.{rules}
 use native.Mathlib.Omega.{arith}
 use Rattle.lanes.proofs.Counting.{count_quotient, count_within}
 use Rattle.lanes.proofs.split.count_of.Goals as goal

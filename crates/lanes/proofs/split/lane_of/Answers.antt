@@ -1,7 +1,7 @@
 -- `lanes::split::lane_of` meets its contract: the lane's first position is one of the run's, so that its index is no higher than
 -- 2^64 - 1, and the lane's numbers are the definition's.
 use native.Mathlib.Omega.{arith}
-use Rattle.lanes.proofs.Conditions.{ValidLane, valid_lane}
+use Rattle.lanes.proofs.Conditions.{valid_lane}
 use Rattle.lanes.proofs.Lanes.{lane_made}
 use Rattle.lanes.proofs.split.lane_of.Goals as goal
 

@@ -1,5 +1,4 @@
 -- `lanes::split::rule_of` meets its contract: of the map of k steps the low bits are the rule.
-use borrow.Author.Rules.{rules}
 use Rattle.lanes.proofs.Rules.{rule_is}
 use Rattle.lanes.proofs.split.rule_of.Goals as goal
 

@@ -1,5 +1,5 @@
 -- `linear_orbits::drift::drift_from` meets its contract: the map of one step at y, and y taken off.
-use Rattle.std.proofs.Common.{◌%◌, ◌^◌, ap, ◌∙◌, rules}
+use Rattle.std.proofs.Common.{◌%◌, ◌^◌, ap, ◌∙◌}
 use Rattle.affine.specs.declared.Affine.{Affine}
 use Rattle.affine.specs.Affine.{apply}
 use Rattle.linear_orbits.proofs.drift.drift_from.Goals as goal

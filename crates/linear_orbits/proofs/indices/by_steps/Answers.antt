@@ -1,13 +1,6 @@
 -- `linear_orbits::indices::by_steps` meets its contract: the loop's invariant is `Passing`.
-use Rattle.std.proofs.Common.{◌+◌, ◌-◌, le_trans, arith, rules}
-use Rattle.linear_orbits.proofs.LinearIndices.{
-  Passing,
-  passing_start,
-  passing_stays,
-  passing_moves,
-  passing_next,
-  passing_never,
-}
+use Rattle.std.proofs.Common.{le_trans, arith}
+use Rattle.linear_orbits.proofs.LinearIndices.{passing_start, passing_stays, passing_moves, passing_next, passing_never}
 use Rattle.linear_orbits.proofs.indices.by_steps.Goals as goal
 
 pub low_bits-x-requires : goal.low_bits-x-requires

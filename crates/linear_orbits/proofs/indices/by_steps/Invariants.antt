@@ -1,13 +1,6 @@
 -- `linear_orbits::indices::by_steps` meets its contract: the loop's invariant is `Passing`.
-use Rattle.std.proofs.Common.{◌+◌, ◌-◌, le_trans, arith, rules}
-use Rattle.linear_orbits.proofs.LinearIndices.{
-  Passing,
-  passing_start,
-  passing_stays,
-  passing_moves,
-  passing_next,
-  passing_never,
-}
+use Rattle.std.proofs.Common.{◌+◌, ◌-◌}
+use Rattle.linear_orbits.proofs.LinearIndices.{Passing}
 use Rattle.linear_orbits.proofs.indices.by_steps.Given as goal
 
 abbrev pub invariant-loop-i : goal.invariant-loop-i

@@ -1,5 +1,5 @@
 -- `linear_orbits::indices::indices` meets its contract.
-use Rattle.std.proofs.Common.{sym, ◌∙◌, arith, rules, leb-false, leb-true}
+use Rattle.std.proofs.Common.{sym, ◌∙◌, arith, leb-false, leb-true}
 use Rattle.sequences.proofs.LowPlaces.{low_reduced, reduced_absent}
 use Rattle.linear_orbits.proofs.indices.indices.Goals as goal
 

@@ -1,5 +1,5 @@
 -- `linear_orbits::indices::low_next` meets its contract: the map of one step at x, and then the low places.
-use Rattle.std.proofs.Common.{◌∙◌, rules}
+use Rattle.std.proofs.Common.{◌∙◌}
 use Rattle.linear_orbits.proofs.LinearIndices.{low_once}
 use Rattle.linear_orbits.proofs.indices.low_next.Goals as goal
 

@@ -1,5 +1,5 @@
 -- `linear_orbits::indices::settled` meets its contract: the generator begins the search.
-use Rattle.std.proofs.Common.{sym, ◌∙◌, lt_of_lt_of_le, mod-eq_of_lt, pow_mono, rules}
+use Rattle.std.proofs.Common.{sym, ◌∙◌, lt_of_lt_of_le, mod-eq_of_lt, pow_mono}
 use Rattle.linear_orbits.proofs.Begins.{generator_begins}
 use Rattle.linear_orbits.proofs.indices.settled.Goals as goal
 

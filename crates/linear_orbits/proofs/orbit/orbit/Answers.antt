@@ -1,7 +1,5 @@
 -- `linear_orbits::orbit::orbit` meets its contract.
-use Rattle.std.proofs.Common.{◌^◌, ◌≤◌, le_trans, arith, rules}
-use Rattle.sequences.specs.Orbit.{IsOrbit}
-use Rattle.generator.specs.Recurrence.{element}
+use Rattle.std.proofs.Common.{le_trans, arith}
 use Rattle.linear_orbits.proofs.Begins.{doublings_orbit}
 use Rattle.linear_orbits.proofs.LinearOrbits.{even_is, odd_is}
 use Rattle.linear_orbits.proofs.orbit.orbit.Goals as goal

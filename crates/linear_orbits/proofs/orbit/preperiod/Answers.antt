@@ -1,5 +1,4 @@
 -- `linear_orbits::orbit::preperiod` meets its contract.
-use Rattle.std.proofs.Common.{rules}
 use Rattle.linear_orbits.proofs.Elements.{scaling}
 use Rattle.linear_orbits.proofs.LinearOrbits.{even_orbit, resting_orbit}
 use Rattle.linear_orbits.proofs.orbit.preperiod.Goals as goal

@@ -1,5 +1,4 @@
 -- `lines::plain::of_run` meets its contract.
-use borrow.Author.Rules.{rules}
 use Rattle.lines.proofs.plain.of_run.Goals as goal
 
 pub returns-in-Accepted : goal.returns-in-Accepted

@@ -1,5 +1,4 @@
 -- `archive::plain::of_lookup` meets its contract.
-use borrow.Author.Rules.{rules}
 use Rattle.lookup.proofs.plain.of_lookup.Goals as goal
 
 pub returns-in-At : goal.returns-in-At

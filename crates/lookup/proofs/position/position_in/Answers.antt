@@ -1,6 +1,5 @@
 -- `lookup::position::position_in` meets its contract: whether or not the index recurs, it is the least one from the run's first
 -- element on.
-use borrow.Author.Rules.{rules}
 use mathlib.Core.Path.{subst, ◌∙◌}
 use Rattle.sequences.specs.Occurrences.{IndicesAre}
 use Rattle.lookup.proofs.PositionInRun.{position_none, position_least}

@@ -1,5 +1,4 @@
 -- `low_places::plain::of_places` meets its contract.
-use borrow.Author.Rules.{rules}
 use Rattle.low_places.proofs.plain.of_places.Goals as goal
 
 pub returns-in-Once : goal.returns-in-Once

@@ -1,5 +1,5 @@
 -- `orbits::exponent::exponent_of` meets its contract: α of a power of two is its exponent.
-use Rattle.std.proofs.Common.{ℕ, ◌%◌, ◌^◌, sym, ap, ◌∙◌, add-one, rules}
+use Rattle.std.proofs.Common.{ℕ, ◌%◌, ◌^◌, sym, ap, ◌∙◌, add-one}
 use Rattle.words.proofs.Places.{alpha_power}
 use Rattle.sequences.specs.Orbit.{exponent_of}
 use Rattle.sequences.proofs.Orbits.{exponent_is}

@@ -1,5 +1,5 @@
 -- `orbits::kinds::indices_of` meets its contract: each kind has its own, and all n places of an element are the element.
-use Rattle.std.proofs.Common.{le_refl, rules}
+use Rattle.std.proofs.Common.{le_refl}
 use Rattle.sequences.proofs.LowPlaces.{whole_indices}
 use Rattle.generator.proofs.Refusals.{kind_told}
 use Rattle.linear_orbits.proofs.Elements.{reduced}

@@ -1,5 +1,5 @@
 -- `orbits::kinds::low_indices_of` meets its contract: a generator that has places is of the linear kind.
-use Rattle.std.proofs.Common.{le_trans, rules}
+use Rattle.std.proofs.Common.{le_trans}
 use Rattle.generator.proofs.Refusals.{linear_kind, accepted_kind}
 use Rattle.orbits.proofs.kinds.low_indices_of.Goals as goal
 

@@ -1,5 +1,4 @@
 -- `orbits::kinds::orbit_of` meets its contract: each kind has its own.
-use Rattle.std.proofs.Common.{rules}
 use Rattle.generator.proofs.Refusals.{kind_told}
 use Rattle.orbits.proofs.kinds.orbit_of.Goals as goal
 

@@ -1,9 +1,8 @@
 -- `orbits::linear::index` meets its contract: whether or not it recurs, the index found is the least, and all n places of an
 -- element are the element.
-use Rattle.std.proofs.Common.{subst, rules}
+use Rattle.std.proofs.Common.{subst}
 use Rattle.sequences.specs.Occurrences.{IndicesAre}
 use Rattle.sequences.proofs.LowPlaces.{whole_indices}
-use Rattle.generator.specs.Recurrence.{modulus, element}
 use Rattle.linear_orbits.proofs.Elements.{reduced}
 use Rattle.orbits.proofs.Indices.{index_found, index_never}
 use Rattle.orbits.proofs.linear.index.Goals as goal

@@ -1,5 +1,4 @@
 -- `orbits::plain::of_index` meets its contract.
-use Rattle.std.proofs.Common.{rules}
 use Rattle.orbits.proofs.plain.of_index.Goals as goal
 
 pub returns-in-At : goal.returns-in-At

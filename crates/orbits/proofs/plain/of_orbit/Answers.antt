@@ -1,5 +1,4 @@
 -- `orbits::plain::of_orbit` meets its contract.
-use Rattle.std.proofs.Common.{rules}
 use Rattle.orbits.proofs.plain.of_orbit.Goals as goal
 
 pub returns-in-Orbit : goal.returns-in-Orbit

@@ -1,5 +1,5 @@
 -- `predecessors::kinds::out_of_range` meets its contract: each kind has its own condition.
-use Rattle.std.proofs.Common.{◌∙◌, rules}
+use Rattle.std.proofs.Common.{◌∙◌}
 use Rattle.generator.proofs.Refusals.{kind_told}
 use Rattle.predecessors.proofs.StepBack.{range_linear, range_prime}
 use Rattle.predecessors.proofs.kinds.out_of_range.Goals as goal

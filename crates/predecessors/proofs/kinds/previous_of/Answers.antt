@@ -1,5 +1,4 @@
 -- `predecessors::kinds::previous_of` meets its contract: each kind has its own.
-use Rattle.std.proofs.Common.{rules}
 use Rattle.predecessors.proofs.StepBack.{invertible, prime_invertible}
 use Rattle.predecessors.proofs.kinds.previous_of.Goals as goal
 

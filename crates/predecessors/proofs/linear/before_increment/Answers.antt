@@ -1,5 +1,4 @@
 -- `generator::linear::before_increment` meets its contract.
-use Rattle.std.proofs.Common.{rules}
 use Rattle.predecessors.proofs.linear.before_increment.Goals as goal
 
 pub returns : goal.returns

@@ -1,5 +1,4 @@
 -- `generator::linear::step_back` meets its contract.
-use Rattle.std.proofs.Common.{rules}
 use Rattle.predecessors.proofs.StepBack.{steps_back}
 use Rattle.predecessors.proofs.linear.step_back.Goals as goal
 

@@ -1,9 +1,7 @@
 -- `lines::filling::fill` meets its contract. The loop's invariant: k numbers stand at the buffer's front, and `number` is the
 -- one that comes next.
 use Prim.Native.Nat.{◌-◌, ◌≤◌}
-use borrow.Author.Rules.{rules}
-use Rattle.runs.specs.Run.{shows}
-use Rattle.remake.proofs.Remakes.{RemadeSoFar, is_element, remake_start, remake_next, remake_end}
+use Rattle.remake.proofs.Remakes.{RemadeSoFar}
 use Rattle.remake.proofs.filling.fill.Given as goal
 
 abbrev pub invariant-loop-k : goal.invariant-loop-k

@@ -1,5 +1,4 @@
 -- `text::write_run` meets its contract: `variety_of` gives an accepted run's variety.
-use borrow.Author.Rules.{rules}
 use mathlib.Core.Path.{ap}
 use Prim.Native.Nat.{ℕ}
 use native.Mathlib.Omega.{arith}

@@ -1,11 +1,7 @@
 -- `text::write_text` meets its contract: the total is written to what follows the lines of the runs.
-use mathlib.Core.Path.{◌≡◌}
-use Prim.Native.Nat.{◌+◌, ◌≤◌}
 use native.Mathlib.Omega.{arith}
-use lib.ListN.{length, length-take, length-drop}
-use Rattle.runsum_text.specs.Text.{total_text}
+use lib.ListN.{length-take, length-drop}
 use Rattle.runsum_text.proofs.Writing.{runs_room, total_room, total_behind}
-use borrow.Author.Rules.{rules}
 use Rattle.runsum_text.proofs.text.write_text.Goals as goal
 
 pub write_runs-n-requires : goal.write_runs-n-requires

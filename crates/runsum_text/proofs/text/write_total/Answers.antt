@@ -1,6 +1,5 @@
 -- `text::write_total` meets its contract: the total is written to what follows the word.
 use Rattle.fields.proofs.FrontWriting.{line_behind}
-use borrow.Author.Rules.{rules}
 use Rattle.runsum_text.proofs.text.write_total.Goals as goal
 
 pub returns : goal.returns

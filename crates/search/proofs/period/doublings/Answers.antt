@@ -1,6 +1,5 @@
 -- `search::period::doublings` meets its contract: the loop's invariant is `Turn`, with a law for each way through.
-use Rattle.std.proofs.Common.{◌-◌, rules}
-use Rattle.search.proofs.Rounds.{Turn, turn_start, turn_stays, turn_doubles, turn_done}
+use Rattle.search.proofs.Rounds.{turn_start, turn_stays, turn_doubles, turn_done}
 use Rattle.search.proofs.period.doublings.Goals as goal
 
 pub loop-m-init : goal.loop-m-init

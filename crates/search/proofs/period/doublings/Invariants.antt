@@ -1,6 +1,6 @@
 -- `search::period::doublings` meets its contract: the loop's invariant is `Turn`, with a law for each way through.
-use Rattle.std.proofs.Common.{◌-◌, rules}
-use Rattle.search.proofs.Rounds.{Turn, turn_start, turn_stays, turn_doubles, turn_done}
+use Rattle.std.proofs.Common.{◌-◌}
+use Rattle.search.proofs.Rounds.{Turn}
 use Rattle.search.proofs.period.doublings.Given as goal
 
 abbrev pub invariant-loop-m : goal.invariant-loop-m

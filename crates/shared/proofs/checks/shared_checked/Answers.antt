@@ -1,5 +1,4 @@
 -- `shared::checks::shared_checked` meets its contract: three checks, in the table's order.
-use borrow.Author.Rules.{rules}
 use Rattle.shared.proofs.Rules.{in_order}
 use Rattle.shared.proofs.checks.shared_checked.Goals as goal
 

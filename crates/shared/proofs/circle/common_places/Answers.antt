@@ -1,5 +1,4 @@
 -- `shared::circle::common_places` meets its contract: by where the first arc ends.
-use borrow.Author.Rules.{rules}
 use native.Mathlib.Omega.{arith}
 use Rattle.shared.proofs.Ends.{ends_before, ends_behind, ends_within}
 use Rattle.shared.proofs.circle.common_places.Goals as goal

@@ -1,5 +1,4 @@
 -- `shared::circle::place` meets its contract: an index and what it leaves are at one place.
-use borrow.Author.Rules.{rules}
 use mathlib.Core.Path.{◌≡◌}
 use Prim.Native.Nat.{suc, ◌+◌, ◌≤◌}
 use native.Mathlib.Nat.{mod-lt}

@@ -1,10 +1,7 @@
 -- `shared::counts::shared_of` meets its contract: both runs are arcs of one circle, or are on different ones.
-use borrow.Author.Rules.{rules}
 use mathlib.Core.Path.{subst}
 use native.Mathlib.Omega.{arith}
-use Rattle.sequences.specs.declared.Indices.TheVariants as indices
 use Rattle.sequences.specs.Occurrences.{IndicesAre}
-use Rattle.generator.specs.Recurrence.{modulus, element}
 use Rattle.shared.proofs.Shares.{first_accepted, shared_nothing, index_within, shared_arcs}
 use Rattle.shared.proofs.counts.shared_of.Goals as goal
 

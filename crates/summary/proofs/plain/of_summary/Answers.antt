@@ -1,5 +1,4 @@
 -- `archive::plain::of_summary` meets its contract.
-use borrow.Author.Rules.{rules}
 use Rattle.summary.proofs.plain.of_summary.Goals as goal
 
 pub returns-in-Sum : goal.returns-in-Sum

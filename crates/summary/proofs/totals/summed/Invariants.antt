@@ -1,12 +1,10 @@
 -- `archive::totals::summed` meets its contract: the loop is a walk that adds up the counts, and one that meets no line that
 -- is refused.
 use Prim.Native.Nat.{◌+◌, ◌-◌, ◌<◌, ◌^◌}
-use native.Mathlib.Omega.{arith}
 use lib.ListN.{length}
-use Rattle.archive.proofs.Folding.{Fold, fold_start}
+use Rattle.archive.proofs.Folding.{Fold}
 use Rattle.archive.proofs.Checking.{refusing}
-use Rattle.archive.proofs.Runs.{run_advances, run_accepted, run_next}
-use Rattle.summary.proofs.Summaries.{summing, sum_next, sum_over, sum_end}
+use Rattle.summary.proofs.Summaries.{summing}
 use Rattle.summary.proofs.totals.summed.Given as goal
 
 abbrev pub invariant-loop-at : goal.invariant-loop-at

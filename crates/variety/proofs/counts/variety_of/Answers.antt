@@ -1,5 +1,4 @@
 -- `variety::counts::variety_of` meets its contract: the count of different values is read off any orbit.
-use borrow.Author.Rules.{rules}
 use Rattle.runs.proofs.Runs.{valid_run}
 use Rattle.variety.proofs.Varieties.{variety_is}
 use Rattle.variety.proofs.counts.variety_of.Goals as goal

@@ -1,5 +1,4 @@
 -- `variety::distinct::distinct_values` meets its contract: the sum is formed only where it is at most the count, so it fits.
-use borrow.Author.Rules.{rules}
 use native.Mathlib.Omega.{arith}
 use Rattle.variety.proofs.distinct.distinct_values.Goals as goal
 

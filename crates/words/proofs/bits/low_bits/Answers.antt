@@ -1,5 +1,4 @@
 -- `words::bits::low_bits` meets its contract: the mask is 64 ones shifted down to n.
-use Rattle.std.proofs.Common.{rules}
 use Rattle.words.proofs.Places.{mask_low}
 use Rattle.words.proofs.bits.low_bits.Goals as goal
 

@@ -1,5 +1,5 @@
 -- `words::bits::ones` meets its contract: 64 ones shifted down to n.
-use Rattle.std.proofs.Common.{ℕ, ◌^◌, sym, ap, arith, pow_pos, rules}
+use Rattle.std.proofs.Common.{ℕ, ◌^◌, sym, ap, arith, pow_pos}
 use Rattle.words.proofs.Places.{ones_shifted}
 use Rattle.words.proofs.bits.ones.Goals as goal
 

@@ -1,5 +1,5 @@
 -- `words::units::inverse` meets its contract: an odd number inverts itself in two places, and each step doubles them.
-use Rattle.std.proofs.Common.{lit≤, rules}
+use Rattle.std.proofs.Common.{lit≤}
 use Rattle.words.proofs.Iteration.{odd_square}
 use Rattle.words.proofs.units.inverse.Goals as goal
 

@@ -1,5 +1,4 @@
 -- `words::units::newton` meets its contract: a step of Newton's iteration doubles the places of an inverse.
-use Rattle.std.proofs.Common.{rules}
 use Rattle.words.proofs.Iteration.{newton_doubles}
 use Rattle.words.proofs.units.newton.Goals as goal
 

@@ -12,8 +12,7 @@ use mir.Syntax.{w64}
 use mir.Val.{Fits, SFits, to_z, of_z}
 use mir.ValLaws.{to_z-of_z}
 use borrow.Author.Tests.{le-ltb}
-use Rattle.vectors_io.proofs.calls.size.Statement.{statement}
-use Rattle.vectors_io.proofs.calls.size.Tie as tie
+use Rattle.vectors_io.proofs.calls.size.Goals as goal
 
 -- s is not negative, fits a word with a sign, and is one below the size of z
 record OneBelow (z s : ℤ) : Type 0 where
@@ -68,23 +67,17 @@ module _ (z : ℤ) (f : SFits w64 z) where
   plain_fits t =
       let n = not_negative z (rw read at t) in rw read (n, size_fits z f n)
 
-sub-result : tie.Need-overflow-sub-result
-sub-result c = sub-fits _ c.before.ranges.steps c.if1.true
+pub overflow_sub-result : goal.overflow_sub-result
+overflow_sub-result c = sub-fits _ c.ranges.steps c.if-steps-lt0.true
 
-cast-result : tie.Need-overflow-cast-result
-cast-result c = cast_fits _ c.before.ranges.steps c.if1.true
+pub overflow_cast-result : goal.overflow_cast-result
+overflow_cast-result c = cast_fits _ c.ranges.steps c.if-steps-lt0.true
 
-add-result : tie.Need-overflow-add-result
-add-result c = sum_fits _ c.before.ranges.steps c.if1.true
+pub overflow_add-result : goal.overflow_add-result
+overflow_add-result c = sum_fits _ c.ranges.steps c.if-steps-lt0.true
 
-returns : tie.Need-returns
-returns c = sum_is _ c.before.ranges.steps c.if1.true
+pub returns-then-steps-lt0 : goal.returns-then-steps-lt0
+returns-then-steps-lt0 c = sum_is _ c.ranges.steps c.if-steps-lt0.true
 
-cast-result-2 : tie.Need-overflow-cast-result-2
-cast-result-2 c = plain_fits _ c.before.ranges.steps c.if1.false
-
-returns-2 : tie.Need-returns-2
-returns-2 c = search rules
-
-pub size-spec : {M : Type 1} → statement M
-size-spec = tie.close (tie.spec sub-result cast-result add-result returns cast-result-2 returns-2)
+pub overflow_cast-result-2 : goal.overflow_cast-result-2
+overflow_cast-result-2 c = plain_fits _ c.ranges.steps c.if-steps-lt0.false

@@ -1,7 +1,5 @@
 -- `remake` meets its contract, by the verdict and by where the position lies.
-use mathlib.Core.Path.{◌≡◌}
 use native.Mathlib.Omega.{arith}
-use borrow.Author.Rules.{rules}
 use Rattle.refusals.proofs.Replies.{number_accepted, number_refused}
 use Rattle.runs.proofs.Runs.{valid_run}
 use Rattle.remake.proofs.Remakes.{remake_refused, remake_none, remake_done}

@@ -19,12 +19,7 @@ pub struct Response {
 }
 
 // The outcome for what was read of standard input. The file is opened, and read into `bytes`, only if there is a question.
-pub fn respond(
-    rt: &impl Files,
-    input: &[u8],
-    last: LastRead,
-    bytes: &mut [u8],
-) -> Response
+pub fn respond(rt: &impl Files, input: &[u8], last: LastRead, bytes: &mut [u8]) -> Response
     requires in_bounds { 22 ≤ length input.now }
     requires filled { Filled input.now last }
     requires in_bounds_2 { 65537 ≤ length bytes.old }

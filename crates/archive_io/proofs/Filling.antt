@@ -2,11 +2,11 @@
 use mathlib.Core.Path.{◌≡◌, refl, sym, ap, ◌∙◌, subst}
 use mathlib.Core.Bool.{true, false}
 use mathlib.Core.List.{List}
-use Prim.Native.Nat.{ℕ, zero, suc, ◌+◌, ◌-◌, ◌≤◌, ◌<◌}
+use Prim.Native.Nat.{ℕ, zero, suc, ◌-◌, ◌≤◌, ◌<◌}
 use native.Mathlib.Omega.{arith}
 use lib.Dec.{T}
 use lib.IntN.{ℤ, pos, negsuc}
-use lib.ListN.{length, take, drop, length-take, length-drop}
+use lib.ListN.{length, take}
 use lib.Signed.{lt_z}
 use borrow.Author.Tests.{ltb-true, ltb-false}
 use Rattle.io.proofs.Counting.{prefix_len_of_le}
@@ -35,20 +35,12 @@ rest_ended (pos (suc k)) l g = absurd (omega (arith, ltb-false 0 (suc k) g))
 rest_ended (negsuc k) l g = absurd (subst T l tt)
 
 module _ (before room : ℕ) where
-  -- the reading stays within the room, and where more may follow, the read brought some bytes
-  after_within : (z : ℤ) → (reading_after before z room).n ≤ before + room
-  after_within (pos k) = omega arith
-  after_within (negsuc k) = omega arith
-
+  -- where more may follow, the read brought some bytes
   after_more : (z : ℤ) → rest_after z ≡ Unknown → 0 < room → before < (reading_after before z room).n
   unfolding rest_after
   after_more (pos zero) u l = absurd (let z : ◌≡◌ {A = ℕ} 0 1 = cc in omega arith)
   after_more (pos (suc k)) u l = omega arith
   after_more (negsuc k) u l = absurd (let z : ◌≡◌ {A = ℕ} 0 1 = cc in omega arith)
-
--- the room is the part of the buffer that follows
-pub part_room : (n : ℕ) (buffer : List ℕ) → length (take (length buffer - n) (drop n buffer)) ≡ length buffer - n
-part_room n buffer = simp (length-take, length-drop) (omega arith)
 
 -- What is left to read, so that the loop ends: nothing behind the end or a failure.
 abbrev pub left_of : ℕ → ℕ → Rest → ℕ
@@ -66,14 +58,6 @@ pub so_far : {buffer : List ℕ} {last : LastRead} {n : ℕ} → last.before ≡
 so_far e l a = record { after = a; before = omega arith }
 
 module _ {buffer : List ℕ} (last : LastRead) where
-  read_within : ReadSoFar buffer last → last.reading.n ≤ length buffer
-  read_within r =
-      omega
-      (arith, r.before, ap (λ (a : Reading). a.n) r.after, after_within last.before (length buffer - last.before) last.got)
-
-  pub filled : ReadSoFar buffer last → Enough (length buffer) last.reading.n last.reading.rest → Filled buffer last
-  filled r e = record { after = r.after; counts = prefix_len_of_le _ _ (read_within r); full = e }
-
   -- it falls by what the read brought
   pub left_less : {size n : ℕ} {rest : Rest} → ReadSoFar buffer last → size ≡ length buffer → last.before ≡ n →
       (rest ≡ Unknown) × (n < size) →

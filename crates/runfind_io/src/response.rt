@@ -9,6 +9,7 @@ use archive_io::input::{LastRead, not_read, read_archive};
 use notices::notice::Notice;
 use runfind_answer::decision::{Question, asked, decide};
 use runfind_output::output::Outcome;
+use std::rt::Files;
 
 // What is to be printed, and what was read of the file, which the promise of `respond` speaks of.
 #[derive(Clone, Copy)]
@@ -18,7 +19,7 @@ pub struct Response {
 }
 
 // The outcome for what was read of standard input. The file is opened, and read into `bytes`, only if there is a question.
-pub fn respond(input: &[u8], last: LastRead, bytes: &mut [u8]) -> Response
+pub fn respond(rt: &impl Files, input: &[u8], last: LastRead, bytes: &mut [u8]) -> Response
     requires in_bounds { 22 ≤ length input.now }
     requires filled { Filled input.now last }
     requires in_bounds_2 { 65537 ≤ length bytes.old }
@@ -31,7 +32,7 @@ pub fn respond(input: &[u8], last: LastRead, bytes: &mut [u8]) -> Response
             archive: not_read(bytes),
         };
     };
-    let archive = read_archive(bytes);
+    let archive = read_archive(rt, bytes);
     let outcome = decide(value, bytes, archive);
     Response { outcome, archive }
 }

@@ -5,11 +5,11 @@ use archive_io::input::read_input;
 use runshow_io::response::respond;
 use runshow_output::output::print_outcome;
 
-fn main() {
+fn main(rt: HostRuntime) {
     let mut input = [0u8; 64];
-    let last = read_input(&mut input);
+    let last = read_input(&rt, &mut input);
     let mut bytes = [0u8; 65537];
-    let response = respond(&input, last, &mut bytes);
+    let response = respond(&rt, &input, last, &mut bytes);
     let outcome = response.outcome;
-    print_outcome(outcome);
+    print_outcome(&mut rt.stdout(), &mut rt.stderr(), outcome);
 }

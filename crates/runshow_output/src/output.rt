@@ -7,6 +7,7 @@ use archive_io::output::print;
 use notices::notice::{Notice, write_notice};
 use runs::Run;
 use runshow_text::text::write_chunk;
+use std::io::Write;
 
 #[derive(Clone, Copy)]
 pub enum Outcome {
@@ -23,35 +24,54 @@ pub struct Shown {
 }
 
 // Prints what was decided.
-pub fn print_outcome(outcome: Outcome) -> Shown
+pub fn print_outcome<W: Write, E: Write>(output: &mut W, errors: &mut E, outcome: Outcome) -> Shown
     ensures { ShownPromise (outcome_due outcome) result }
 {
     match outcome {
-        Outcome::Part(run, first, many) => print_part(run, first, many),
-        Outcome::Told(notice) => print_notice(notice),
+        Outcome::Part(run, first, many) => print_part(output, errors, run, first, many),
+        Outcome::Told(notice) => print_notice(output, errors, notice),
     }
 }
 
-fn print_notice(notice: Notice) -> Shown
+fn print_notice<W: Write, E: Write>(output: &mut W, errors: &mut E, notice: Notice) -> Shown
     ensures { ShownPromise 0 result }
 {
     let mut buf = [0u8; 64];
     let n = write_notice(&mut buf, notice);
-    let written = print(&buf[..n], b"runshow: the answer could not be written\n");
+    let written = print(
+        output,
+        errors,
+        &buf[..n],
+        b"runshow: the answer could not be written\n",
+    );
     Shown { count: 0, written }
 }
 
 // A field has at most 20 digits and byte 10, so 1,024 numbers fit 21,504 bytes.
-fn print_part(run: Run, first: u64, many: u64) -> Shown
+fn print_part<W: Write, E: Write>(
+    output: &mut W,
+    errors: &mut E,
+    run: Run,
+    first: u64,
+    many: u64,
+) -> Shown
     ensures { ShownPromise (part_due run first many) result }
 {
     let mut numbers = [0u64; 1024];
     let mut buf = [0u8; 21504];
-    print_chunks(run, first, many, &mut numbers, &mut buf)
+    print_chunks(output, errors, run, first, many, &mut numbers, &mut buf)
 }
 
 // Prints the numbers, a chunk at a time, up to the last one asked for or the run's end, or until they can't be written.
-fn print_chunks(run: Run, first: u64, many: u64, numbers: &mut [u64], buf: &mut [u8]) -> Shown
+fn print_chunks<W: Write, E: Write>(
+    output: &mut W,
+    errors: &mut E,
+    run: Run,
+    first: u64,
+    many: u64,
+    numbers: &mut [u64],
+    buf: &mut [u8],
+) -> Shown
     requires numbers_nonzero { 0 < length numbers.old }
     requires numbers_in_bounds { 21 * length numbers.old ≤ length buf.old }
     ensures { ShownPromise (part_due run first many) result }
@@ -67,7 +87,8 @@ fn print_chunks(run: Run, first: u64, many: u64, numbers: &mut [u64], buf: &mut 
                 written: true,
             };
         }
-        if !print(&buf[..n], b"runshow: the numbers could not be written\n") {
+        let complaint = b"runshow: the numbers could not be written\n";
+        if !print(output, errors, &buf[..n], complaint) {
             return Shown {
                 count: shown,
                 written: false,

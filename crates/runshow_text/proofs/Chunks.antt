@@ -19,7 +19,6 @@ use Rattle.runs.specs.Run.{shows, run_refusal}
 use Rattle.remake.specs.Remake.{shown_from, remade_count, RemakePromise}
 use Rattle.runs.proofs.Runs.{valid_run}
 use Rattle.runshow_text.specs.Text.{numbers_lines, text_from, due_of, part_due, ChunkPromise}
-use Rattle.runshow_text.specs.declared.text.Chunk.{Chunk}
 use Rattle.runshow_text.proofs.Writing.{numbers_short}
 
 -- What positions show.

@@ -4,8 +4,8 @@
 use archive_io::input::read_archive;
 use runsum_io::output::print_output;
 
-fn main() {
+fn main(rt: HostRuntime) {
     let mut bytes = [0u8; 65537];
-    let last = read_archive(&mut bytes);
-    print_output(&bytes, last);
+    let last = read_archive(&rt, &mut bytes);
+    print_output(&mut rt.stdout(), &mut rt.stderr(), &bytes, last);
 }

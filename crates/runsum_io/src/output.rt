@@ -9,16 +9,27 @@ use archive_io::output::print;
 use notices::notice::{Notice, write_notice};
 use refusals::number;
 use runsum_text::text::write_text;
+use std::io::Write;
 use summary::SummaryAnswer;
 
 // Prints it in one piece.
-pub fn print_output(archive: &[u8], last: LastRead)
+pub fn print_output<W: Write, E: Write>(
+    output: &mut W,
+    errors: &mut E,
+    archive: &[u8],
+    last: LastRead,
+)
     requires in_bounds { 65537 ≤ length archive.now }
     requires filled { Filled archive.now last }
 {
     let mut buf = [0u8; 131099];
     let n = write_output(&mut buf, archive, last);
-    print(&buf[..n], b"runsum: the answer could not be written\n");
+    print(
+        output,
+        errors,
+        &buf[..n],
+        b"runsum: the answer could not be written\n",
+    );
 }
 
 // Writes it from the first byte of the buffer on and answers how many bytes it wrote. An archive has at most 65,536 bytes,

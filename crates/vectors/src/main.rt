@@ -1,6 +1,6 @@
 // Runs the stored calls: its input and its output are made by tests/reference/make_vectors.py.
 #![tactic(auto)]
 
-fn main() {
-    vectors_io::run();
+fn main(rt: HostRuntime) {
+    vectors_io::run(&rt);
 }

@@ -4,7 +4,10 @@
 #![tactic(auto)]
 
 use archive::parts::part_end;
+use archive_io::input::read_input;
 use replies::Reply;
+use std::io;
+use std::io::{Input, Print, Write};
 
 mod archives;
 mod calls;
@@ -12,26 +15,28 @@ mod numbers;
 mod players;
 mod replies;
 
-pub fn run() {
+pub fn run(rt: &(impl Input + Print)) {
     let mut input = [0u8; 1600000];
-    answer_input(&mut input);
+    answer_input(rt, &mut input);
 }
 
 // Reads the input and answers it; one that fills the space may not have been read to its end. As `&mut [u8; 1600000]` the
 // space has its length without a proof.
-fn answer_input(space: &mut [u8; 1600000]) {
-    let n = io::read_full(0, space);
+fn answer_input(rt: &(impl Input + Print), space: &mut [u8; 1600000]) {
+    let last = read_input(rt, space);
+    let n = last.reading.n;
+    let mut output = io::writer(rt);
     if n == 1600000 {
-        io::write_all(1, b"the input is too long\n");
+        let _ = output.write_all(b"the input is too long\n");
         return;
     }
     let input: &[u8] = space;
-    answer_all(&input[..n]);
+    answer_all(&mut output, &input[..n]);
 }
 
 // Writes the reply to each line.
-fn answer_all(input: &[u8]) {
-    let mut out = io::large_buffer();
+fn answer_all<W: Write>(output: &mut W, input: &[u8]) {
+    let mut out = [0u8; 65536];
     let mut filled = 0;
     let mut at = 0;
     while at < input.len() {
@@ -39,12 +44,12 @@ fn answer_all(input: &[u8]) {
         let reply = answer(&input[at..end]);
         filled = replies::write(&mut out, filled, reply);
         if 65000 < filled {
-            io::write_all(1, &out[0..filled]);
+            let _ = output.write_all(&out[0..filled]);
             filled = 0;
         }
         at = end;
     }
-    io::write_all(1, &out[0..filled]);
+    let _ = output.write_all(&out[0..filled]);
 }
 
 // The reply to the call that a line is.

@@ -1,2 +1,0 @@
--- What the ways out of the loop show.
-mod Printing

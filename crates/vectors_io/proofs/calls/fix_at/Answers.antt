@@ -1,0 +1,13 @@
+-- `vectors_io::calls::fix_at` is proved: no float of a reply is a NaN, so that both have bits of their own.
+use borrow.Author.Rules.{rules}
+use mathlib.Core.Bool.{not}
+use lib.Dec.{T}
+use lib.Ieee.{is_nan}
+use Rattle.fixes.proofs.Promises.{numbers}
+use Rattle.vectors_io.proofs.calls.fix_at.Goals as goal
+
+pub float_to_bits-result : goal.float_to_bits-result
+float_to_bits-result c = rw c.of_fix-r.ensures (numbers c.fix_at.ensures).0
+
+pub float_to_bits-result-2 : goal.float_to_bits-result-2
+float_to_bits-result-2 c = rw c.of_fix-r.ensures (numbers c.fix_at.ensures).1

@@ -1,0 +1,18 @@
+-- `replies::write_numbers` meets its contract: a line has at most 21 bytes for each number.
+use Prim.Native.Nat.{◌*◌, ◌≤◌}
+use native.Mathlib.Omega.{arith}
+use lib.ListN.{length, length-take, length-drop}
+use Rattle.fields.specs.Line.{fields_line}
+use Rattle.fields.proofs.Codec.{line_bound}
+use borrow.Author.Rules.{rules}
+use Rattle.vectors_io.proofs.replies.write_numbers.Goals as goal
+
+pub write-requires : goal.write-requires
+write-requires c = simp (length-take, length-drop) (omega (arith, line_bound c.args.numbers.now (λ i l. omega (arith, c.type_inv.numbers i))))
+
+pub overflow_add-result : goal.overflow_add-result
+overflow_add-result c =
+    omega (arith, line_bound c.args.numbers.now (λ i l. omega (arith, c.type_inv.numbers i)), c.write.ensures.count, c.requires)
+
+pub returns : goal.returns
+returns c = omega (arith, line_bound c.args.numbers.now (λ i l. omega (arith, c.type_inv.numbers i)), c.write.ensures.count)

@@ -101,11 +101,11 @@ def proved_structs(name, place):
     """The struct that is called so in this file, and those that it has as fields."""
     text = source(place)
     if not re.search(rf"\bstruct {name}\b", text):
-        crate = only(rf"\nuse (\w+)::{name};", text, place)
+        crate = only(rf"\nuse (\w+)::(?:\{{[^}}]*\b)?{name}\b[^;]*;", text, place)
         yield from proved_structs(name, f"crates/{crate}/src/lib.rt")
         return
     fields = []
-    for item in items(only(rf"#\[repr\(C\)\]\s*pub struct {name} \{{([^}}]*)\}}", text, place)):
+    for item in items(only(rf"#\[repr\(C\)\]\s*(?:#\[derive\([^]]*\)\]\s*)?pub struct {name} \{{([^}}]*)\}}", text, place)):
         field, kind = matched(rf"pub (\w+): ({FIELD})", item, place)
         for part in re.findall(r"[A-Z]\w*", kind):
             yield from proved_structs(part, place)
@@ -115,7 +115,7 @@ def proved_structs(name, place):
 
 def proved():
     text, structs, functions = source(CALLS), {}, {}
-    for call in text.split("#[no_mangle]")[1:]:
+    for call in text.split("#[unsafe(no_mangle)]")[1:]:
         name, parameters, result = matched(r'pub extern "C" fn (\w+)\(([^)]*)\) -> (\w+)\s.*', call, CALLS)
         functions[name] = list(proved_parameters(parameters)), c_type(RENAMED.get(result, result))
         for kind in re.findall(r"\b[A-Z]\w*", f"{parameters} {result}"):

@@ -1,38 +1,28 @@
 #!/usr/bin/env python3
-"""What one must-fail edit of each crate costs in processor time.
+"""What a must-fail edit costs in processor time, with its share of the proofs.
 
     tests/budget.py LOG SECONDS [BOUND]
 
-LOG is what rt ci printed, SECONDS the processor time that it took. rt ci tells how long each check and each edit took on the
-clock; scaled so that they add up to SECONDS, these are processor times, also on a busy machine. Fails if an edit of some crate
-costs more than BOUND seconds on average, 24 unless given."""
+LOG is what rt ci printed, SECONDS the processor time that it took. rt ci doesn't tell how long a check or an edit took, and it
+keeps what an earlier run on the machine proved and tried; so the cost is told where one run did all of it: its whole time over
+its edits. Fails if that is more than BOUND seconds, 60 unless given, and if no edit was refused."""
 import re
 import sys
-from collections import defaultdict
 
 
 def main():
-    log, seconds, bound = open(sys.argv[1]).read(), float(sys.argv[2]), float((sys.argv[3:] or ["24"])[0])
-    checks = [int(s) for s in re.findall(r"^rt: \w+ proved \((\d+) s\)$", log, re.M)]
-    edits = defaultdict(list)
-    for name, took in re.findall(r"^rt: must-fail (\w+)/\w+: refused, as it must be \((?:.*; )?(\d+) s\)$", log, re.M):
-        edits[name].append(int(took))
-    if not checks or not edits:
-        sys.exit("budget: no checks or no edits in the log")
-    # A time is told in whole seconds, rounded down or up; half of them are told half a second short.
-    clock = sum(checks) + sum(map(sum, edits.values()))
-    scale = seconds / clock
-    dear = []
-    print("crate            edits  s for one")
-    for name, took in sorted(edits.items(), key=lambda e: -sum(e[1]) / len(e[1])):
-        one = scale * sum(took) / len(took)
-        print(f"{name:16} {len(took):5}  {one:9.1f}")
-        if one > bound:
-            dear.append(name)
-    count = sum(map(len, edits.values()))
-    print(f"{count} edits, {scale * sum(map(sum, edits.values())):.0f} s of {seconds:.0f} s of processor time")
-    if dear:
-        sys.exit(f"budget: an edit costs more than {bound:.0f} s in {', '.join(dear)}: split the crate")
+    log, seconds, bound = open(sys.argv[1]).read(), float(sys.argv[2]), float((sys.argv[3:] or ["60"])[0])
+    ok = re.search(r"^rt: ok.*; must-fail edits: (\d+) refused.*$", log, re.M)
+    if not ok or int(ok[1]) == 0:
+        sys.exit("budget: no edits in the log")
+    count = int(ok[1])
+    if "every proof and must-fail edit was done in this run" not in ok[0]:
+        print(f"{count} edits refused; what one costs is not told, since some were kept from an earlier run")
+        return
+    one = seconds / count
+    print(f"{count} edits refused, {seconds:.0f} s of processor time, {one:.1f} s for each with its share of the proofs")
+    if one > bound:
+        sys.exit(f"budget: an edit costs more than {bound:.0f} s: split the crates that cost most")
 
 
 main()

@@ -19,7 +19,7 @@ def crates():
     for line in (ROOT / "crates.txt").read_text().splitlines():
         name, colon, _ = line.partition(":")
         if colon and not line.startswith("#"):
-            yield name
+            yield name.split()[0]
 
 
 def sentence(edit):

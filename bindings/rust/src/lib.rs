@@ -13,7 +13,7 @@
 //! assert_eq!(lookup(archive, 985), Ok(None));
 //! ```
 //!
-//! The library is looked for in the folder `NOONPASTURE_LIB`, else where `rt staticlib noonpasture`
+//! The library is looked for in the folder `NOONPASTURE_LIB`, else where `tools/build library`
 //! writes it.
 
 pub mod raw;

@@ -2,8 +2,6 @@
 // refusal, as it was. Over the C boundary `noonpasture` has the same calls on a record that is lent.
 #![tactic(auto)]
 
-ghost use Rattle.std.specs.Prelude.{◌≡◌};
-ghost use Rattle.player.specs.declared.Outcome.{Outcome};
 ghost use Rattle.player.specs.PlainPlayer.{Open, Forward, Back, SetMark, Return, Show};
 ghost use Rattle.player.specs.Player.{PlayerPromise, told};
 
@@ -38,20 +36,6 @@ pub struct Player {
 pub struct Outcome {
     pub refusal: u64,
     pub player: Player,
-}
-
-// A record that is lent: the callee has it by value, and the record that it leaves is stored unless it refuses. Whatever the callee
-// promises of the record before and after holds of the lent one, if it keeps the record beside a refusal.
-pub fn lent<A, F: FnOnce(Player, A) -> Outcome>(player: &mut Player, argument: A, callee: F) -> u64
-    requires callable { F.pre callee player.old argument }
-    requires keeps { (o : Outcome) → F.post callee player.old argument o → (o.refusal ≡ 0 → ⊥) → o.player ≡ player.old }
-    ensures { F.post callee player.old argument (record { refusal = result; player = player.new }) }
-{
-    let taken = callee(*player, argument);
-    if taken.refusal == 0 {
-        *player = taken.player;
-    }
-    taken.refusal
 }
 
 // Opens a run at position 0, with no mark set.

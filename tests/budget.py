@@ -5,13 +5,13 @@
 
 LOG is what rt ci printed, SECONDS the processor time that it took. rt ci doesn't tell how long a check or an edit took, and it
 keeps what an earlier run on the machine proved and tried; so the cost is told where one run did all of it: its whole time over
-its edits. Fails if that is more than BOUND seconds, 60 unless given, and if no edit was refused."""
+its edits. Fails if that is more than BOUND seconds, 48 unless given, and if no edit was refused."""
 import re
 import sys
 
 
 def main():
-    log, seconds, bound = open(sys.argv[1]).read(), float(sys.argv[2]), float((sys.argv[3:] or ["60"])[0])
+    log, seconds, bound = open(sys.argv[1]).read(), float(sys.argv[2]), float((sys.argv[3:] or ["48"])[0])
     ok = re.search(r"^rt: ok.*; must-fail edits: (\d+) refused.*$", log, re.M)
     if not ok or int(ok[1]) == 0:
         sys.exit("budget: no edits in the log")

@@ -11,8 +11,7 @@ pub fn value_of(g: Generator, index: u64) -> u64
     requires { refusal_of g ≡ 0 }
     ensures { result ≡ element g index }
 {
-    let kind = kind_of(g);
-    match kind {
+    match kind_of(g) {
         Kind::Linear => linear::element_at(g, index),
         Kind::Prime => prime::element_at(g, index),
     }
@@ -23,8 +22,7 @@ pub fn next_of(g: Generator, x: u64) -> u64
     requires { (refusal_of g ≡ 0) × (IsElement g x) }
     ensures { result ≡ step g x }
 {
-    let kind = kind_of(g);
-    match kind {
+    match kind_of(g) {
         Kind::Linear => linear::next(g, x),
         Kind::Prime => prime::next(g, x),
     }

@@ -8,7 +8,7 @@ ghost use Rattle.generator.specs.Check.{refusal_of, parity_refusal};
 ghost use Rattle.refusals.specs.Replies.{plain_value, value_reply};
 ghost use Rattle.generator.specs.Kinds.{KindIs};
 
-use refusals::{Check, Refusal, ValueAnswer};
+use refusals::Refusal;
 
 pub mod kinds;
 pub mod linear;
@@ -40,36 +40,32 @@ pub fn kind_of(g: Generator) -> Kind
 }
 
 // The conditions that every call on a generator checks first.
-pub fn checked(g: Generator) -> Check
+pub fn checked(g: Generator) -> Result<(), Refusal>
     ensures { check_number result ≡ refusal_of g }
 {
     if 64 < g.width {
-        return Check::Refused(Refusal::WidthOutOfRange);
+        return Err(Refusal::WidthOutOfRange);
     }
-    let kind = kind_of(g);
-    match kind {
+    match kind_of(g) {
         Kind::Linear => linear::checked(g),
         Kind::Prime => prime::checked(g),
     }
 }
 
 // The condition of the calls that go back: the multiplier is odd.
-pub fn parity_checked(g: Generator) -> Check
+pub fn parity_checked(g: Generator) -> Result<(), Refusal>
     ensures { check_number result ≡ parity_refusal g }
 {
     if g.multiplier % 2 == 0 {
-        return Check::Refused(Refusal::NotInvertible);
+        return Err(Refusal::NotInvertible);
     }
-    Check::Accepted
+    Ok(())
 }
 
 // Element i of a generator.
-pub fn element(g: Generator, index: u64) -> ValueAnswer
+pub fn element(g: Generator, index: u64) -> Result<u64, Refusal>
     ensures { plain_value result ≡ value_reply (refusal_of g) (recurrence.element g index) }
 {
-    let verdict = checked(g);
-    if let Check::Refused(refusal) = verdict {
-        return ValueAnswer::Refused(refusal);
-    }
-    ValueAnswer::Value(kinds::value_of(g, index))
+    checked(g)?;
+    Ok(kinds::value_of(g, index))
 }

@@ -8,7 +8,7 @@ ghost use Rattle.generator.specs.Linear.{Linear, once_of};
 
 use crate::Generator;
 use affine::{Affine, jump, value_at};
-use refusals::{Check, Refusal};
+use refusals::Refusal;
 use words::bits::{exceeds, low_bits};
 
 // The map of one step.
@@ -22,20 +22,20 @@ pub fn once(g: Generator) -> Affine
 }
 
 // The conditions on the operands.
-pub fn checked(g: Generator) -> Check
+pub fn checked(g: Generator) -> Result<(), Refusal>
     requires { (kind_of g ≡ kind.Linear) × (g.width ≤ 64) }
     ensures { check_number result ≡ refusal_of g }
 {
     if exceeds(g.multiplier, g.width) {
-        return Check::Refused(Refusal::OperandOutOfRange);
+        return Err(Refusal::OperandOutOfRange);
     }
     if exceeds(g.increment, g.width) {
-        return Check::Refused(Refusal::OperandOutOfRange);
+        return Err(Refusal::OperandOutOfRange);
     }
     if exceeds(g.seed, g.width) {
-        return Check::Refused(Refusal::OperandOutOfRange);
+        return Err(Refusal::OperandOutOfRange);
     }
-    Check::Accepted
+    Ok(())
 }
 
 // Element i of an accepted generator.

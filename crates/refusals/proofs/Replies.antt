@@ -4,19 +4,17 @@ use mathlib.Core.Bool.{not}
 use Prim.Native.Nat.{ℕ, suc, ◌-◌}
 use native.Mathlib.Omega.{arith}
 use lib.Dec.{T, eqb}
+use Rattle.std.specs.Prelude.{Result, Ok, Err}
 use Rattle.refusals.specs.declared.Refusal.{Refusal}
 use Rattle.refusals.specs.declared.Refusal.TheVariants as refusal
-use Rattle.refusals.specs.declared.Check.{Check}
-use Rattle.refusals.specs.declared.Check.TheVariants as verdict
-use Rattle.refusals.specs.declared.ValueAnswer.TheVariants as answer
 use Rattle.refusals.specs.Refusals.{number_of, check_number, or_else}
 use Rattle.refusals.specs.Replies.{value_reply, plain_value}
 
 -- the number of a check that accepted, and of one that refused
-pub number_accepted : {r : Check} {n : ℕ} → check_number r ≡ n → r ≡ verdict.Accepted → n ≡ 0
+pub number_accepted : {r : Result (Unit {0}) Refusal} {n : ℕ} → check_number r ≡ n → r ≡ Ok tt → n ≡ 0
 number_accepted e f = sym e ∙ ap check_number f
 
-pub number_refused : {r : Check} {x : Refusal} {n : ℕ} → check_number r ≡ n → r ≡ verdict.Refused x → number_of x ≡ n
+pub number_refused : {r : Result (Unit {0}) Refusal} {x : Refusal} {n : ℕ} → check_number r ≡ n → r ≡ Err x → number_of x ≡ n
 number_refused e f = sym (ap check_number f) ∙ e
 
 -- a refusal's number is not 0
@@ -49,12 +47,12 @@ pub refused_else : (x : Refusal) {n : ℕ} (m : ℕ) → number_of x ≡ n → n
 refused_else x m e = let k = number_suc x in rw (← e, k.1)
 
 pub refused_first :
-    {r : Check} {x : Refusal} {n : ℕ} (m : ℕ) → check_number r ≡ n → r ≡ verdict.Refused x → check_number r ≡ or_else n m
+    {r : Result (Unit {0}) Refusal} {x : Refusal} {n : ℕ} (m : ℕ) → check_number r ≡ n → r ≡ Err x → check_number r ≡ or_else n m
 refused_first {x = x} m e f = ap check_number f ∙ refused_else x m (number_refused e f)
 
 -- a refused answer has zeros beside the refusal's number
-pub value_refused : (x : Refusal) {n : ℕ} (v : ℕ) → number_of x ≡ n → plain_value (answer.Refused x) ≡ value_reply n v
+pub value_refused : (x : Refusal) {n : ℕ} (v : ℕ) → number_of x ≡ n → plain_value (Err x) ≡ value_reply n v
 value_refused x v e = let k = number_suc x in rw (← e, k.1)
 
-pub value_given : {n u : ℕ} (v : ℕ) → n ≡ 0 → u ≡ v → plain_value (answer.Value u) ≡ value_reply n v
+pub value_given : {n u : ℕ} (v : ℕ) → n ≡ 0 → u ≡ v → plain_value (Ok u) ≡ value_reply n v
 value_given v e f = rw (e, f)

@@ -1,9 +1,7 @@
 -- The number of each refusal in documents 01 and 02, and the order of conditions (SCOPE 6).
-use Rattle.std.specs.Prelude.{ℕ, zero, suc}
+use Rattle.std.specs.Prelude.{ℕ, zero, suc, Result, Ok, Err}
 use Rattle.refusals.specs.declared.Refusal.{Refusal}
 use Rattle.refusals.specs.declared.Refusal.TheVariants as refusal
-use Rattle.refusals.specs.declared.Check.{Check}
-use Rattle.refusals.specs.declared.Check.TheVariants.{Accepted, Refused}
 
 -- The number of each refusal in documents 01 and 02, and its word there.
 abbrev pub number_of : Refusal → ℕ
@@ -25,9 +23,9 @@ number_of refusal.LanesOutOfRange = 15  -- lanes
 number_of refusal.Incompatible = 16  -- unlike
 
 -- The number that a check gives, 0 where it accepts.
-abbrev pub check_number : Check → ℕ
-check_number Accepted = 0
-check_number (Refused r) = number_of r
+abbrev pub check_number : Result (Unit {0}) Refusal → ℕ
+check_number (Ok _) = 0
+check_number (Err r) = number_of r
 
 -- The first number that is not 0: of two lists of conditions, those of the first come first.
 abbrev pub or_else : ℕ → ℕ → ℕ

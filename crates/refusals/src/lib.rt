@@ -8,34 +8,22 @@ ghost use Rattle.refusals.specs.Replies.{plain_value};
 // Why a call declines; specs/Refusals.antt has the customer's numbers.
 #[derive(Clone, Copy)]
 pub enum Refusal {
-    ArchiveTooLong,
-    MalformedLine,
-    WidthOutOfRange,
-    OperandOutOfRange,
-    RunOutOfRange,
-    ValueOutOfRange,
-    NotInvertible,
-    BufferTooShort,
-    PlacesOutOfRange,
-    TotalOverflow,
-    DuplicateLine,
-    PositionOutOfRange,
-    BookmarkInvalid,
-    Inexact,
-    LanesOutOfRange,
-    Incompatible,
-}
-
-#[derive(Clone, Copy)]
-pub enum Check {
-    Accepted,
-    Refused(Refusal),
-}
-
-#[derive(Clone, Copy)]
-pub enum ValueAnswer {
-    Value(u64),
-    Refused(Refusal),
+    ArchiveTooLong = 1,
+    MalformedLine = 2,
+    WidthOutOfRange = 3,
+    OperandOutOfRange = 4,
+    RunOutOfRange = 5,
+    ValueOutOfRange = 6,
+    NotInvertible = 7,
+    BufferTooShort = 8,
+    PlacesOutOfRange = 9,
+    TotalOverflow = 10,
+    DuplicateLine = 11,
+    PositionOutOfRange = 12,
+    BookmarkInvalid = 13,
+    Inexact = 14,
+    LanesOutOfRange = 15,
+    Incompatible = 16,
 }
 
 // The same in plain numbers: the refusal's number, 0 for none, and the value, 0 beside a refusal.
@@ -50,44 +38,26 @@ pub struct ValueReply {
 pub fn number(refusal: Refusal) -> u64
     ensures { result ≡ number_of refusal }
 {
-    match refusal {
-        Refusal::ArchiveTooLong => 1,
-        Refusal::MalformedLine => 2,
-        Refusal::WidthOutOfRange => 3,
-        Refusal::OperandOutOfRange => 4,
-        Refusal::RunOutOfRange => 5,
-        Refusal::ValueOutOfRange => 6,
-        Refusal::NotInvertible => 7,
-        Refusal::BufferTooShort => 8,
-        Refusal::PlacesOutOfRange => 9,
-        Refusal::TotalOverflow => 10,
-        Refusal::DuplicateLine => 11,
-        Refusal::PositionOutOfRange => 12,
-        Refusal::BookmarkInvalid => 13,
-        Refusal::Inexact => 14,
-        Refusal::LanesOutOfRange => 15,
-        Refusal::Incompatible => 16,
-    }
+    refusal as u64
 }
 
 // Joins two checks: the first refusal counts.
-pub fn or_else(first: Check, second: Check) -> Check
+pub fn or_else(first: Result<(), Refusal>, second: Result<(), Refusal>) -> Result<(), Refusal>
     ensures { check_number result ≡ or_else (check_number first) (check_number second) }
 {
-    if let Check::Refused(_) = first {
-        return first;
-    }
-    second
+    first.and(second)
 }
 
-pub fn of_value(answer: ValueAnswer) -> ValueReply
-    ensures { result ≡ plain_value answer }
-{
-    match answer {
-        ValueAnswer::Value(value) => ValueReply { refusal: 0, value },
-        ValueAnswer::Refused(refusal) => ValueReply {
-            refusal: number(refusal),
-            value: 0,
-        },
+impl From<Result<u64, Refusal>> for ValueReply {
+    ghost from_gives = { λ answer r. r ≡ plain_value answer };
+
+    fn from(answer: Result<u64, Refusal>) -> ValueReply {
+        match answer {
+            Ok(value) => ValueReply { refusal: 0, value },
+            Err(refusal) => ValueReply {
+                refusal: number(refusal),
+                value: 0,
+            },
+        }
     }
 }

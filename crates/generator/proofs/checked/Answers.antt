@@ -1,5 +1,4 @@
 -- `generator::checked` meets its contract: the kind's module has the conditions on the operands.
-use mathlib.Core.Path.{◌∙◌}
 use borrow.Author.Tests.{lt-ltb}
 use Rattle.generator.specs.Check.{refusal_of}
 use Rattle.generator.proofs.checked.Goals as goal
@@ -7,10 +6,3 @@ use Rattle.generator.proofs.checked.Goals as goal
 pub returns-then-g-gt64 : goal.returns-then-g-gt64
 unfolding refusal_of
 returns-then-g-gt64 c = simp (lt-ltb _ _ c.if-g-gt64.true)
-
-pub checked-requires : goal.checked-requires
-checked-requires c =
-    (c.kind_of-kind.ensures.is ∙ c.in-Linear.is, c.if-g-gt64.false)
-
-pub checked-requires-in-Prime : goal.checked-requires-in-Prime
-checked-requires-in-Prime c = c.kind_of-kind.ensures.is ∙ c.in-Prime.is

@@ -1,18 +1,19 @@
 -- The customary multiplier is the largest odd power of 5 below 2 ^ n. The odd powers grow by the factor 25, and the
 -- n-th is at least 2 ^ n, so the search for the first that is not below ends before n; all before it are below.
+use Rattle.std.proofs.Common.{⊎_elim}
+use Rattle.std.specs.Prelude.{Ok, Err, ◌⊎◌}
 use mathlib.Core.Path.{◌≡◌, refl, sym, ap, subst, ◌∙◌}
-use mathlib.Core.Bool.{Bool}
+use mathlib.Core.Bool.{Bool, true, false, cond, ◌||◌}
 use mathlib.Core.List.{List}
 use Prim.Native.Nat.{ℕ, zero, suc, ◌+◌, ◌*◌, ◌^◌, ◌-◌, ◌≤◌, ◌<◌}
 use native.Mathlib.Nat.{pow-suc, le_refl, lt_of_not-le, lt_of_lt_of_le, sub-add_cancel}
 use native.Mathlib.Decide.{dec_le, le_ind}
 use native.Mathlib.Omega.{arith}
-use lib.Dec.{T, eqb, eqb→eq, leb, lit<}
+use lib.Dec.{T, eqb, eqb→eq, leb, lit<, ltb}
 use lib.ListN.{length, get_or}
 use lib.Pow.{pow_mono}
-use borrow.Author.Tests.{leb-true, leb-false, le-ltb}
+use borrow.Author.Tests.{leb-true, leb-false, le-ltb, lt-ltb}
 use Rattle.refusals.specs.declared.Refusal.TheVariants.{WidthOutOfRange}
-use Rattle.refusals.specs.declared.ValueAnswer.TheVariants.{Value, Refused}
 use Rattle.sequences.specs.Least.{least}
 use Rattle.refusals.specs.Replies.{plain_value}
 use Rattle.customary.specs.Customary.{odd_power, customary_of, customary_refusal, CustomaryTable, LargestOddPower, CustomaryPromise}
@@ -82,11 +83,25 @@ pub table_entry : {xs : List ℕ} → CustomaryTable xs → {n : ℕ} → (3 ≤
 table_entry t {n} h = t.rule (n - 3) (omega arith) ∙ ap customary_of (sub-add_cancel h.0)
 
 -- the promise of the call
-pub customary_refused : (n : ℕ) → customary_refusal n ≡ 3 → CustomaryPromise n (plain_value (Refused WidthOutOfRange))
-customary_refused n e =
-    record { equals = value_refused WidthOutOfRange _ (sym e); largest = λ z. absurd (number_nonzero WidthOutOfRange z) }
+pub customary_refused : (n : ℕ) → (n < 3) ⊎ (64 < n) → CustomaryPromise n (plain_value (Err WidthOutOfRange))
+unfolding customary_refusal
+customary_refused n outside =
+    record {
+      equals = value_refused WidthOutOfRange _ (sym (⊎_elim below above outside));
+      largest = λ z. absurd (number_nonzero WidthOutOfRange z);
+    }
+  where
+    below : n < 3 → customary_refusal n ≡ 3
+    below l = simp (lt-ltb n 3 l)
 
-pub customary_given : {n v : ℕ} → 3 ≤ n → n ≤ 64 → v ≡ customary_of n → CustomaryPromise n (plain_value (Value v))
+    either : (b : Bool) → ◌≡◌ {A = ℕ} (cond (b || true) 3 0) 3
+    either true = refl
+    either false = refl
+
+    above : 64 < n → customary_refusal n ≡ 3
+    above h = ap (λ (b : Bool). cond (ltb n 3 || b) 3 0) (lt-ltb 64 n h) ∙ either (ltb n 3)
+
+pub customary_given : {n v : ℕ} → 3 ≤ n → n ≤ 64 → v ≡ customary_of n → CustomaryPromise n (plain_value (Ok v))
 unfolding customary_refusal
 customary_given {n} {v} h l e =
     record {

@@ -4,19 +4,17 @@
 ghost use Rattle.refusals.specs.Replies.{plain_value};
 ghost use Rattle.customary.specs.Customary.{CustomaryPromise};
 
-use refusals::{Refusal, ValueAnswer};
+use refusals::Refusal;
 
 pub mod table;
 
 // The customary multiplier of a width.
-pub fn customary_multiplier(width: u64) -> ValueAnswer
+#[tactic(auto, using(crate::proofs::OddPowers::customary_refused))]
+pub fn customary_multiplier(width: u64) -> Result<u64, Refusal>
     ensures { CustomaryPromise width (plain_value result) }
 {
-    if width < 3 {
-        return ValueAnswer::Refused(Refusal::WidthOutOfRange);
+    if width < 3 || 64 < width {
+        return Err(Refusal::WidthOutOfRange);
     }
-    if 64 < width {
-        return ValueAnswer::Refused(Refusal::WidthOutOfRange);
-    }
-    ValueAnswer::Value(table::multiplier(width))
+    Ok(table::multiplier(width))
 }

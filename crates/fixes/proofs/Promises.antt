@@ -1,4 +1,5 @@
 -- The fix call: what its conditions leave of an accepted fix, what the two elements are, and the ways out of the call.
+use Rattle.std.specs.Prelude.{Ok, Err}
 use mathlib.Core.Path.{◌≡◌, refl, sym, ap, subst, ◌∙◌}
 use mathlib.Core.Bool.{Bool, true, false, not, true≢false}
 use Prim.Native.Nat.{ℕ, zero, suc, ◌+◌, ◌*◌, ◌^◌, ◌≤◌, ◌<◌}
@@ -24,7 +25,6 @@ use Rattle.runs.specs.Run.{shows, run_refusal}
 use Rattle.runs.proofs.Runs.{ValidRun, valid_run}
 use Rattle.fixes.specs.declared.Fix.{Fix}
 use Rattle.fixes.specs.declared.FixReply.{FixReply}
-use Rattle.fixes.specs.declared.FixAnswer.TheVariants as answer
 use Rattle.fixes.specs.Deviate.{numerator, denominator, Deviate}
 use Rattle.fixes.specs.Fix.{inexact_kind, conditions, fix_refusal, deviate_at, fix_of, fix_reply, plain_fix, FixPromise}
 use Rattle.fixes.proofs.ExactDeviates.{deviates}
@@ -88,7 +88,7 @@ unfolding shows
 shown_below {run} p v e = subst (λ (x : ℕ). x < 2 ^ run.generator.width) (sym e) (v.below (run.first + p))
 
 -- The ways out of the call.
-pub fix_refused : (run : Run) (f : ℕ) (x : Refusal) → number_of x ≡ fix_refusal run f → FixPromise run f (plain_fix (answer.Refused x))
+pub fix_refused : (run : Run) (f : ℕ) (x : Refusal) → number_of x ≡ fix_refusal run f → FixPromise run f (plain_fix (Err x))
 fix_refused run f x e =
     record {
       equals = let k = number_suc x in rw (← e, k.1);
@@ -96,7 +96,7 @@ fix_refused run f x e =
       north = λ z. absurd (number_nonzero x z);
     }
 
-pub fix_given : (run : Run) (f : ℕ) {fix : Fix} → fix_refusal run f ≡ 0 → fix ≡ fix_of run f → FixPromise run f (plain_fix (answer.At fix))
+pub fix_given : (run : Run) (f : ℕ) {fix : Fix} → fix_refusal run f ≡ 0 → fix ≡ fix_of run f → FixPromise run f (plain_fix (Ok fix))
 fix_given run f {fix} z e =
     record {
       equals = rw (z, e);

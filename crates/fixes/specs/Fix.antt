@@ -1,4 +1,6 @@
 -- The fix call (document 02, note 9; SCOPE 4.9): fix f of a run is two deviates, east of position 2f and north of position 2f + 1.
+use Rattle.std.specs.Prelude.{Result, Ok, Err}
+use Rattle.refusals.specs.declared.Refusal.{Refusal}
 use Rattle.std.specs.Prelude.{◌≡◌, Bool, true, false, cond, ℕ, zero, suc, ◌+◌, ◌*◌, leb, pos, Float}
 use Rattle.std.specs.Float.{fin}
 use Rattle.refusals.specs.Refusals.{number_of, or_else}
@@ -9,8 +11,6 @@ use Rattle.runs.specs.declared.Run.{Run}
 use Rattle.runs.specs.Run.{shows, run_refusal}
 use Rattle.fixes.specs.declared.Fix.{Fix}
 use Rattle.fixes.specs.declared.FixReply.{FixReply}
-use Rattle.fixes.specs.declared.FixAnswer.{FixAnswer}
-use Rattle.fixes.specs.declared.FixAnswer.TheVariants as answer
 use Rattle.fixes.specs.Deviate.{deviate_of, Deviate}
 
 -- The modulus is no power of two: so it is of the prime-modulus models, at width 0.
@@ -45,9 +45,9 @@ fix_reply zero fix = record { refusal = 0; fix = fix }
 fix_reply (suc n) fix = record { refusal = suc n; fix = zeros }
 
 -- What an answer says.
-abbrev pub plain_fix : FixAnswer → FixReply
-plain_fix (answer.At fix) = record { refusal = 0; fix = fix }
-plain_fix (answer.Refused r) = record { refusal = number_of r; fix = zeros }
+abbrev pub plain_fix : Result Fix Refusal → FixReply
+plain_fix (Ok fix) = record { refusal = 0; fix = fix }
+plain_fix (Err r) = record { refusal = number_of r; fix = zeros }
 
 -- The promise of the call: the reply is the definition's, every bit of both floats; and of an accepted one each float is what a
 -- deviate is to be.

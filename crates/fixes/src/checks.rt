@@ -4,24 +4,21 @@ ghost use Rattle.refusals.specs.Refusals.{check_number};
 ghost use Rattle.fixes.specs.Fix.{fix_refusal};
 
 use generator::{Kind, kind_of};
-use refusals::{Check, Refusal};
+use refusals::Refusal;
 use runs::Run;
 
 // The run's conditions, then the kind, then the later position. A run has half as many fixes as positions, so that position is off
 // the run exactly if the number of the fix is not below half the count; no sum is formed, which could wrap.
-pub fn fix_checked(run: Run, fix: u64) -> Check
+pub fn fix_checked(run: Run, fix: u64) -> Result<(), Refusal>
     ensures { check_number result ≡ fix_refusal run fix }
 {
-    let verdict = runs::checked(run);
-    if let Check::Refused(_) = verdict {
-        return verdict;
-    }
+    runs::checked(run)?;
     let kind = kind_of(run.generator);
     if let Kind::Prime = kind {
-        return Check::Refused(Refusal::Inexact);
+        return Err(Refusal::Inexact);
     }
     if run.count / 2 <= fix {
-        return Check::Refused(Refusal::PositionOutOfRange);
+        return Err(Refusal::PositionOutOfRange);
     }
-    Check::Accepted
+    Ok(())
 }

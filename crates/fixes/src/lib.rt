@@ -6,7 +6,7 @@ ghost use Rattle.fixes.specs.Fix.{FixPromise, plain_fix};
 
 use checks::fix_checked;
 use deviates::fix_of;
-use refusals::{Check, Refusal};
+use refusals::Refusal;
 use runs::Run;
 
 pub mod checks;
@@ -35,12 +35,9 @@ pub struct FixReply {
 }
 
 // The fix with this number: east of position 2 × fix, north of the position behind it.
-pub fn fix_at(run: Run, fix: u64) -> FixAnswer
+pub fn fix_at(run: Run, fix: u64) -> Result<Fix, Refusal>
     ensures { FixPromise run fix (plain_fix result) }
 {
-    let verdict = fix_checked(run, fix);
-    if let Check::Refused(refusal) = verdict {
-        return FixAnswer::Refused(refusal);
-    }
-    FixAnswer::At(fix_of(run, fix))
+    fix_checked(run, fix)?;
+    Ok(fix_of(run, fix))
 }

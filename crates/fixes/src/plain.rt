@@ -9,8 +9,8 @@ pub fn of_fix(answer: FixAnswer) -> FixReply
     ensures { result ≡ plain_fix answer }
 {
     match answer {
-        FixAnswer::At(fix) => FixReply { refusal: 0, fix },
-        FixAnswer::Refused(refusal) => FixReply {
+        Ok(fix) => FixReply { refusal: 0, fix },
+        Err(refusal) => FixReply {
             refusal: number(refusal),
             fix: Fix {
                 east: 0.0,

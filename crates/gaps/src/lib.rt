@@ -7,7 +7,7 @@ ghost use Rattle.gaps.specs.Gap.{GapPromise, gap_refusal, plain_gap};
 
 use generator::{Generator, checked, parity_checked};
 use orbits::kinds::indices_of;
-use refusals::{Check, Refusal, or_else};
+use refusals::{Refusal, or_else};
 use sequences::Indices;
 
 pub mod plain;
@@ -30,7 +30,7 @@ pub struct GapReply {
 }
 
 // The conditions of the gap call.
-fn gap_checked(g: Generator) -> Check
+fn gap_checked(g: Generator) -> Result<(), Refusal>
     ensures { check_number result ≡ gap_refusal g }
 {
     let general = checked(g);
@@ -43,10 +43,7 @@ fn gap_checked(g: Generator) -> Check
 pub fn gap(g: Generator, from: u64, to: u64) -> GapAnswer
     ensures { GapPromise g from to (plain_gap result) }
 {
-    let verdict = gap_checked(g);
-    if let Check::Refused(refusal) = verdict {
-        return GapAnswer::Refused(refusal);
-    }
+    gap_checked(g)?;
     let first = indices_of(g, from);
     let Indices::Every { index: i, last: _ } = first else {
         return GapAnswer::Never;

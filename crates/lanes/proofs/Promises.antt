@@ -1,18 +1,17 @@
 -- The ways out of the two calls.
+use Rattle.std.specs.Prelude.{Ok, Err}
 use mathlib.Core.Path.{◌≡◌, ap, ap₂, subst, ◌∙◌}
 use mathlib.Core.List.{List}
 use Prim.Native.Nat.{ℕ}
 use lib.ListN.{length}
 use Rattle.refusals.specs.declared.Refusal.{Refusal}
 use Rattle.refusals.specs.declared.ValueReply.{ValueReply}
-use Rattle.refusals.specs.declared.ValueAnswer.TheVariants as value
 use Rattle.refusals.specs.Refusals.{number_of}
 use Rattle.refusals.specs.Replies.{plain_value, value_reply}
 use Rattle.refusals.proofs.Replies.{number_nonzero, number_suc}
 use Rattle.runs.specs.declared.Run.{Run}
 use Rattle.runs.specs.Run.{run_refusal}
 use Rattle.lines.specs.Line.{line_of}
-use Rattle.lines.specs.declared.RunAnswer.TheVariants as answer
 use Rattle.lines.specs.ReadLine.{plain_run, accepted_run, read_of}
 use Rattle.lines.specs.WriteLine.{write_refusal, buffer_after, WritePromise}
 use Rattle.lines.proofs.Reading.{accepted_run_lem, own_run, own_accepted}
@@ -29,7 +28,7 @@ reads_back run z =
     ap₂ (λ (n : ℕ) (r : Run). record { refusal = n; run = r }) accepted (accepted_run_lem (line_of run) accepted ∙ own_run run)
 
 -- The lane as a record.
-pub lane_refused : (run : Run) (k j : ℕ) (x : Refusal) → number_of x ≡ lane_refusal run k j → LanePromise run k j (plain_run (answer.Refused x))
+pub lane_refused : (run : Run) (k j : ℕ) (x : Refusal) → number_of x ≡ lane_refusal run k j → LanePromise run k j (plain_run (Err x))
 lane_refused run k j x e =
     record {
       equals = let n = number_suc x in rw (← e, n.1);
@@ -39,7 +38,7 @@ lane_refused run k j x e =
     }
 
 pub lane_given :
-    (run : Run) (k j : ℕ) {lane : Run} → lane_refusal run k j ≡ 0 → lane ≡ lane_of run k j → LanePromise run k j (plain_run (answer.Accepted lane))
+    (run : Run) (k j : ℕ) {lane : Run} → lane_refusal run k j ≡ 0 → lane ≡ lane_of run k j → LanePromise run k j (plain_run (Ok lane))
 lane_given run k j z e =
     let v = valid_lane run k j z in
     rw e
@@ -53,7 +52,7 @@ lane_given run k j z e =
 -- The lane as a line.
 pub write_lane_refused :
     (run : Run) (k j : ℕ) (before : List ℕ) (x : Refusal) → number_of x ≡ lane_refusal run k j →
-    WriteLanePromise run k j before before (plain_value (value.Refused x))
+    WriteLanePromise run k j before before (plain_value (Err x))
 unfolding write_lane_refusal
 write_lane_refused run k j before x e =
     let n = number_suc x in

@@ -4,30 +4,27 @@ ghost use Rattle.refusals.specs.Refusals.{check_number};
 ghost use Rattle.lanes.specs.Lane.{lane_refusal};
 
 use generator::{Kind, kind_of};
-use refusals::{Check, Refusal};
+use refusals::Refusal;
 use runs::Run;
 
 // The run's conditions, then the kind, the lane and the number of lanes. Of 0 lanes there is no lane, so that the second of these
 // finds them too.
-pub fn lane_checked(run: Run, lanes: u64, lane: u64) -> Check
+pub fn lane_checked(run: Run, lanes: u64, lane: u64) -> Result<(), Refusal>
     ensures { check_number result ≡ lane_refusal run lanes lane }
 {
-    let verdict = runs::checked(run);
-    if let Check::Refused(_) = verdict {
-        return verdict;
-    }
+    runs::checked(run)?;
     let kind = kind_of(run.generator);
     if let Kind::Prime = kind {
-        return Check::Refused(Refusal::LanesOutOfRange);
+        return Err(Refusal::LanesOutOfRange);
     }
     if lanes <= lane {
-        return Check::Refused(Refusal::LanesOutOfRange);
+        return Err(Refusal::LanesOutOfRange);
     }
     if 16 < lanes {
-        return Check::Refused(Refusal::LanesOutOfRange);
+        return Err(Refusal::LanesOutOfRange);
     }
     if run.count < lanes {
-        return Check::Refused(Refusal::LanesOutOfRange);
+        return Err(Refusal::LanesOutOfRange);
     }
-    Check::Accepted
+    Ok(())
 }

@@ -9,7 +9,7 @@ ghost use Rattle.lanes.specs.WriteLane.{WriteLanePromise};
 
 use checks::lane_checked;
 use lines::{RunAnswer, write_line};
-use refusals::{Check, ValueAnswer};
+use refusals::Refusal;
 use runs::Run;
 use split::lane_of;
 
@@ -17,24 +17,18 @@ pub mod checks;
 pub mod split;
 
 // The lane with this number, from 0 on, of so many.
-pub fn lane(run: Run, lanes: u64, lane: u64) -> RunAnswer
+pub fn lane(run: Run, lanes: u64, lane: u64) -> Result<Run, Refusal>
     ensures { LanePromise run lanes lane (plain_run result) }
 {
-    let verdict = lane_checked(run, lanes, lane);
-    if let Check::Refused(refusal) = verdict {
-        return RunAnswer::Refused(refusal);
-    }
-    RunAnswer::Accepted(lane_of(run, lanes, lane))
+    lane_checked(run, lanes, lane)?;
+    Ok(lane_of(run, lanes, lane))
 }
 
 // Writes the lane's line from the buffer's first byte on, and gives the number of bytes.
-pub fn write_lane(run: Run, lanes: u64, lane: u64, buffer: &mut [u8]) -> ValueAnswer
+pub fn write_lane(run: Run, lanes: u64, lane: u64, buffer: &mut [u8]) -> Result<u64, Refusal>
     ensures { WriteLanePromise run lanes lane buffer.old buffer.new (plain_value result) }
 {
-    let verdict = lane_checked(run, lanes, lane);
-    if let Check::Refused(refusal) = verdict {
-        return ValueAnswer::Refused(refusal);
-    }
+    lane_checked(run, lanes, lane)?;
     let own = lane_of(run, lanes, lane);
     write_line(own, buffer)
 }

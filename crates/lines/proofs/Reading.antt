@@ -1,5 +1,6 @@
 -- Reading a line, by its definition. The line of a run has that run's numbers, and where `is_line` accepts bytes they are the
 -- line of the run of the numbers guessed; so the definition has its meaning, and each way out of the call is the definition.
+use Rattle.std.specs.Prelude.{Result, Ok, Err}
 use mathlib.Core.Path.{◌≡◌, refl, sym, ap, ◌∙◌, subst}
 use mathlib.Core.Bool.{Bool, true, false}
 use mathlib.Core.List.{List, [], ◌∷◌}
@@ -14,8 +15,6 @@ use Rattle.fields.specs.Line.{AllBelow, fields_line, numbers_from, is_line}
 use Rattle.fields.specs.Codec.{LineRead}
 use Rattle.fields.proofs.Numbers.{numbers_line, line_injective, is_line_lem, line_is, no_test}
 use Rattle.runs.specs.declared.Run.{Run}
-use Rattle.lines.specs.declared.RunAnswer.{RunAnswer}
-use Rattle.lines.specs.declared.RunAnswer.TheVariants.{Accepted, Refused}
 use Rattle.runs.specs.Run.{run_refusal}
 use Rattle.lines.specs.Line.{numbers_of, line_of, run_of}
 use Rattle.runs.proofs.Runs.{valid_run}
@@ -120,15 +119,15 @@ read_promise : {bytes : List ℕ} {reply : RunReply} → reply ≡ read_of bytes
 read_promise {bytes} e = subst (ReadPromise bytes) (sym e) (read_kept bytes)
 
 -- the promise of an answer that is known
-pub read_as : {bytes : List ℕ} {a : RunAnswer} (b : RunAnswer) → a ≡ b → ReadPromise bytes (plain_run a) → ReadPromise bytes (plain_run b)
-read_as {bytes} b e r = subst (λ (c : RunAnswer). ReadPromise bytes (plain_run c)) e r
+pub read_as : {bytes : List ℕ} {a : (Result Run Refusal)} (b : (Result Run Refusal)) → a ≡ b → ReadPromise bytes (plain_run a) → ReadPromise bytes (plain_run b)
+read_as {bytes} b e r = subst (λ (c : (Result Run Refusal)). ReadPromise bytes (plain_run c)) e r
 
 -- The ways out of the call.
 module _ {bytes before numbers : List ℕ} {answer : Bool} (l : LineRead bytes before numbers answer) (room : length before ≡ 6) where
   is : is_line 6 bytes ≡ answer
   is = ap (λ (n : ℕ). is_line n bytes) (sym room) ∙ sym l.is_line_lem
 
-  pub read_malformed : answer ≡ false → ReadPromise bytes (plain_run (Refused MalformedLine))
+  pub read_malformed : answer ≡ false → ReadPromise bytes (plain_run (Err MalformedLine))
   read_malformed f = read_promise (sym (read_others bytes (is ∙ f)))
 
   module _ {run : Run} (t : answer ≡ true) (e : run ≡ run_of numbers) where
@@ -137,10 +136,10 @@ module _ {bytes before numbers : List ℕ} {answer : Bool} (l : LineRead bytes b
         read_lines bytes (is ∙ t)
         ∙ ap (λ (r : Run). run_reply (run_refusal r) r) (ap run_of (sym (l.numbers t)) ∙ sym e)
 
-    pub read_refused : (x : Refusal) → number_of x ≡ run_refusal run → ReadPromise bytes (plain_run (Refused x))
+    pub read_refused : (x : Refusal) → number_of x ≡ run_refusal run → ReadPromise bytes (plain_run (Err x))
     read_refused x r = read_promise (sym (read ∙ let j = number_suc x in rw (← r, j.1)))
 
-    pub read_accepted : run_refusal run ≡ 0 → ReadPromise bytes (plain_run (Accepted run))
+    pub read_accepted : run_refusal run ≡ 0 → ReadPromise bytes (plain_run (Ok run))
     read_accepted r = read_promise (sym (read ∙ rw r))
 
   -- of a line that is known to be accepted the numbers read are those of its run

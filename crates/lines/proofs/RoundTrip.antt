@@ -1,5 +1,6 @@
 -- The round trip of demand 2, read off the two promises: what is written for an accepted run reads as that run, and an
 -- accepted line is byte for byte what the writer makes of it.
+use Rattle.std.specs.Prelude.{Result, Ok, Err}
 use mathlib.Core.Path.{◌≡◌, refl, sym, ap, ap₂, subst, ◌∙◌}
 use mathlib.Core.Bool.{cond}
 use mathlib.Core.List.{List}
@@ -10,8 +11,6 @@ use lib.ListN.{length, take, length-take}
 use lib.Seq.{take_at}
 use borrow.Author.Tests.{le-ltb}
 use Rattle.refusals.specs.declared.Refusal.{Refusal}
-use Rattle.refusals.specs.declared.ValueAnswer.{ValueAnswer}
-use Rattle.refusals.specs.declared.ValueAnswer.TheVariants.{Value, Refused}
 use Rattle.refusals.specs.Refusals.{number_of, or_else}
 use Rattle.refusals.specs.declared.ValueReply.{ValueReply}
 use Rattle.refusals.specs.Replies.{value_reply, plain_value}
@@ -91,9 +90,9 @@ read_writes {bytes} {before} {wrote = wrote} {reads} r z w l = (fits, written_li
     fits = ap (λ (p : ValueReply). p.refusal) w.equals ∙ reply_refusal _ _ ∙ none
 
 -- For a client that has a buffer of 107 bytes: it is refused only what the run is refused, and gets the run back.
-pub write_as : {run : Run} {before after : List ℕ} {a : ValueAnswer} (b : ValueAnswer) → a ≡ b →
+pub write_as : {run : Run} {before after : List ℕ} {a : (Result ℕ Refusal)} (b : (Result ℕ Refusal)) → a ≡ b →
     WritePromise run before after (plain_value a) → WritePromise run before after (plain_value b)
-write_as {run} {before} {after} b e w = subst (λ (c : ValueAnswer). WritePromise run before after (plain_value c)) e w
+write_as {run} {before} {after} b e w = subst (λ (c : (Result ℕ Refusal)). WritePromise run before after (plain_value c)) e w
 
 room_enough : (run : Run) (buffer : List ℕ) → 107 ≤ length buffer → write_refusal run buffer ≡ run_refusal run
 unfolding write_refusal
@@ -103,18 +102,18 @@ room_enough run buffer l = go (run_refusal run) refl
     go zero e = rw (le-ltb (length buffer) (length (line_of run)) (omega (arith, line_short (valid_run run e))))
     go (suc n) e = refl
 
-pub write_refusal_lem : {run : Run} {before after : List ℕ} (x : Refusal) → WritePromise run before after (plain_value (Refused x)) →
+pub write_refusal_lem : {run : Run} {before after : List ℕ} (x : Refusal) → WritePromise run before after (plain_value (Err x)) →
     107 ≤ length before → refused_run (number_of x) ≡ run_reply (run_refusal run) run
 write_refusal_lem {run} {before} x w l =
     let e : number_of x ≡ run_refusal run =
     ap (λ (r : ValueReply). r.refusal) w.equals ∙ reply_refusal _ _ ∙ room_enough run before l in
     let k = number_suc x in rw (← e, k.1)
 
-pub written_fits : {run : Run} {before after : List ℕ} {n : ℕ} → WritePromise run before after (plain_value (Value n)) → n ≤ length after
+pub written_fits : {run : Run} {before after : List ℕ} {n : ℕ} → WritePromise run before after (plain_value (Ok n)) → n ≤ length after
 written_fits {run} {before} {after} {n} w =
     let e : n ≡ length (line_of run) = ap (λ (r : ValueReply). r.value) w.equals ∙ reply_value _ (accepted w refl) in
     omega (arith, length-take n after, ap length (written_line w refl))
 
-pub written_back : {run : Run} {before after : List ℕ} {n : ℕ} {reads : RunReply} → WritePromise run before after (plain_value (Value n)) →
+pub written_back : {run : Run} {before after : List ℕ} {n : ℕ} {reads : RunReply} → WritePromise run before after (plain_value (Ok n)) →
     ReadPromise (take n after) reads → reads ≡ run_reply (run_refusal run) run
 written_back {run} w r = written_reads w refl r ∙ sym (ap (λ (n : ℕ). run_reply n run) (written_run w refl))

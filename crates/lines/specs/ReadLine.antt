@@ -1,10 +1,10 @@
 -- Reading a line, of any bytes (SCOPE 4.4). It rests on `line_of` alone: the answer is the run whose line the bytes are.
+use Rattle.std.specs.Prelude.{Result, Ok, Err}
+use Rattle.refusals.specs.declared.Refusal.{Refusal}
 use Rattle.std.specs.Prelude.{◌≡◌, true, false, List, ℕ, zero, suc}
 use Rattle.fields.specs.Line.{numbers_from, is_line}
 use Rattle.refusals.specs.Refusals.{number_of}
 use Rattle.runs.specs.declared.Run.{Run}
-use Rattle.lines.specs.declared.RunAnswer.{RunAnswer}
-use Rattle.lines.specs.declared.RunAnswer.TheVariants.{Accepted, Refused}
 use Rattle.runs.specs.Run.{run_refusal}
 use Rattle.lines.specs.Line.{line_of, run_of, FitsWords, no_run}
 use Rattle.lines.specs.declared.RunReply.{RunReply}
@@ -21,9 +21,9 @@ run_reply zero run = accepted_run run
 run_reply (suc n) run = refused_run (suc n)
 
 -- What an answer says.
-abbrev pub plain_run : RunAnswer → RunReply
-plain_run (Accepted run) = accepted_run run
-plain_run (Refused r) = refused_run (number_of r)
+abbrev pub plain_run : Result Run Refusal → RunReply
+plain_run (Ok run) = accepted_run run
+plain_run (Err r) = refused_run (number_of r)
 
 -- The run whose line the bytes are, if they are one.
 abbrev pub run_in : List ℕ → Run

@@ -9,7 +9,7 @@ ghost use Rattle.lines.specs.WriteLine.{WritePromise};
 
 use fields::line;
 use numbers::{numbers_of, run_of};
-use refusals::{Check, Refusal, ValueAnswer};
+use refusals::Refusal;
 use runs::{Run, checked};
 
 pub mod accepted;
@@ -31,33 +31,27 @@ pub struct RunReply {
 }
 
 // The run whose line the bytes are.
-pub fn read_line(bytes: &[u8]) -> RunAnswer
+pub fn read_line(bytes: &[u8]) -> Result<Run, Refusal>
     ensures { ReadPromise bytes.now (plain_run result) }
 {
     let mut numbers = [0u64; 6];
     if !line::read(bytes, &mut numbers) {
-        return RunAnswer::Refused(Refusal::MalformedLine);
+        return Err(Refusal::MalformedLine);
     }
     let run = run_of(numbers);
-    let verdict = checked(run);
-    if let Check::Refused(refusal) = verdict {
-        return RunAnswer::Refused(refusal);
-    }
-    RunAnswer::Accepted(run)
+    checked(run)?;
+    Ok(run)
 }
 
 // Writes a run's line from the buffer's first byte on, and gives the number of bytes.
-pub fn write_line(run: Run, buffer: &mut [u8]) -> ValueAnswer
+pub fn write_line(run: Run, buffer: &mut [u8]) -> Result<u64, Refusal>
     ensures { WritePromise run buffer.old buffer.new (plain_value result) }
 {
-    let verdict = checked(run);
-    if let Check::Refused(refusal) = verdict {
-        return ValueAnswer::Refused(refusal);
-    }
+    checked(run)?;
     let numbers = numbers_of(run);
     if buffer.len() < line::length(&numbers) {
-        return ValueAnswer::Refused(Refusal::BufferTooShort);
+        return Err(Refusal::BufferTooShort);
     }
     let n = line::write(buffer, &numbers);
-    ValueAnswer::Value(n as u64)
+    Ok(n as u64)
 }

@@ -23,8 +23,8 @@ pub fn of_run(answer: RunAnswer) -> RunReply
     ensures { result ≡ plain_run answer }
 {
     match answer {
-        RunAnswer::Accepted(run) => RunReply { refusal: 0, run },
-        RunAnswer::Refused(refusal) => RunReply {
+        Ok(run) => RunReply { refusal: 0, run },
+        Err(refusal) => RunReply {
             refusal: number(refusal),
             run: NO_RUN,
         },

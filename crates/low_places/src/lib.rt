@@ -9,7 +9,7 @@ ghost use Rattle.low_places.specs.Places.{PlacesPromise, range_refusal, places_r
 use generator::{Generator, checked};
 use orbits::exponent::exponent_of;
 use orbits::kinds::low_indices_of;
-use refusals::{Check, Refusal};
+use refusals::Refusal;
 use sequences::Indices;
 
 pub mod plain;
@@ -34,26 +34,23 @@ pub struct PlacesReply {
 }
 
 // The condition of the places call beside those of a generator.
-fn range_checked(g: Generator, places: u64) -> Check
+fn range_checked(g: Generator, places: u64) -> Result<(), Refusal>
     ensures { check_number result ≡ range_refusal g places }
 {
     if places == 0 {
-        return Check::Refused(Refusal::PlacesOutOfRange);
+        return Err(Refusal::PlacesOutOfRange);
     }
     if g.width < places {
-        return Check::Refused(Refusal::PlacesOutOfRange);
+        return Err(Refusal::PlacesOutOfRange);
     }
-    Check::Accepted
+    Ok(())
 }
 
 // The conditions of the places call: the range is looked at only where the generator is accepted.
-fn places_checked(g: Generator, places: u64) -> Check
+fn places_checked(g: Generator, places: u64) -> Result<(), Refusal>
     ensures { check_number result ≡ places_refusal g places }
 {
-    let general = checked(g);
-    if let Check::Refused(_) = general {
-        return general;
-    }
+    checked(g)?;
     range_checked(g, places)
 }
 
@@ -62,10 +59,7 @@ fn places_checked(g: Generator, places: u64) -> Check
 pub fn index_places(g: Generator, places: u64, value: u64) -> PlacesAnswer
     ensures { PlacesPromise g places value (plain_places result) }
 {
-    let verdict = places_checked(g, places);
-    if let Check::Refused(refusal) = verdict {
-        return PlacesAnswer::Refused(refusal);
-    }
+    places_checked(g, places)?;
     let found = low_indices_of(g, places, value);
     match found {
         Indices::Once(index) => PlacesAnswer::Once(index),

@@ -3,6 +3,7 @@
 use Rattle.generator.specs.declared.Kind.{Kind}
 use Rattle.generator.specs.declared.Kind.TheVariants as kind
 use Rattle.sequences.specs.declared.Orbit.{Orbit}
+use Rattle.std.specs.Prelude.{Ok, Err}
 use Rattle.std.proofs.Common.{◌≡◌, ℕ, suc, ◌+◌, ◌%◌, ◌^◌, ◌<◌, ◌≤◌, sym, refl, ap, ◌∙◌, ⊎_elim, le_trans, add-one, arith}
 use Rattle.words.proofs.Congruence.{mod_two}
 use Rattle.sequences.specs.Orbit.{IsOrbit, exponent_of, IsPower, OrbitIs, period_of, preperiod_of}
@@ -83,7 +84,7 @@ module _ (g : Generator) {o : Orbit} (is : OrbitIs (element g) (modulus g) o) wh
   prime_last v = let only = orbit_only is.orbit (prime_orbit v) in (only.0, omega (arith, only.1))
 
 -- The promise of the call.
-pub orbit_refused : (g : Generator) (x : Refusal) → number_of x ≡ refusal_of g → OrbitPromise g (plain_orbit (answer.Refused x))
+pub orbit_refused : (g : Generator) (x : Refusal) → number_of x ≡ refusal_of g → OrbitPromise g (plain_orbit (Err x))
 orbit_refused g x e =
     record {
       equals = let k = number_suc x in rw (← e, k.1);
@@ -101,7 +102,7 @@ module _ (g : Generator) {o : Orbit} (z : refusal_of g ≡ 0) (is : OrbitIs (ele
   defined q = rw (z, q, preperiod_is is.orbit (orbit_room is), period_is is.orbit (orbit_room is))
 
   pub orbit_linear : {e : ℕ} → kind_of g ≡ kind.Linear → e ≡ exponent_of (suc o.last) →
-      OrbitPromise g (plain_orbit (answer.Orbit o.preperiod e))
+      OrbitPromise g (plain_orbit (Ok (answer.Orbit o.preperiod e)))
   orbit_linear {e} q h =
       rw h
       (record {
@@ -121,7 +122,7 @@ module _ (g : Generator) {o : Orbit} (z : refusal_of g ≡ 0) (is : OrbitIs (ele
       exact : 2 ^ exponent_of (suc o.last) ≡ suc o.last
       exact = ap (λ (P : ℕ). 2 ^ exponent_of P) power.power ∙ ap (λ (n : ℕ). 2 ^ n) (exponent_is power.exponent power.small) ∙ sym power.power
 
-  pub orbit_prime : kind_of g ≡ kind.Prime → OrbitPromise g (plain_orbit (answer.Period o.preperiod (o.last + 1)))
+  pub orbit_prime : kind_of g ≡ kind.Prime → OrbitPromise g (plain_orbit (Ok (answer.Period o.preperiod (o.last + 1))))
   orbit_prime q =
       rw (add-one o.last)
       (record {

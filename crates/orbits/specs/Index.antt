@@ -1,13 +1,12 @@
 -- The least index of a generator that yields a number, or never (SCOPE 3.3; document 02, note 5).
-use Rattle.std.specs.Prelude.{◌≡◌, ℕ, zero, suc, ◌≤◌, cond, ◌↔◌, nat_lt}
+use Rattle.std.specs.Prelude.{◌≡◌, Option, Some, None, Result, Ok, Err, ℕ, zero, suc, ◌≤◌, cond, ◌↔◌, nat_lt}
 use Rattle.sequences.specs.Index.{index_of, LeastIndex}
 use Rattle.generator.specs.declared.Generator.{Generator}
 use Rattle.generator.specs.declared.Kind.TheVariants as kind
 use Rattle.generator.specs.Recurrence.{kind_of, modulus, element}
 use Rattle.refusals.specs.Refusals.{number_of}
 use Rattle.generator.specs.Check.{refusal_of}
-use Rattle.orbits.specs.declared.IndexAnswer.{IndexAnswer}
-use Rattle.orbits.specs.declared.IndexAnswer.TheVariants as answer
+use Rattle.refusals.specs.declared.Refusal.{Refusal}
 use Rattle.orbits.specs.declared.IndexReply.{IndexReply}
 
 -- The reply for a refusal's number, 0 for none, and an index below the bound, or the bound itself, which stands for never:
@@ -18,10 +17,10 @@ index_reply zero bound k =
 index_reply (suc n) bound k = record { refusal = suc n; found = 0; index = 0 }
 
 -- What an answer says.
-abbrev pub plain_index : IndexAnswer → IndexReply
-plain_index (answer.At k) = record { refusal = 0; found = 1; index = k }
-plain_index answer.Never = record { refusal = 0; found = 0; index = 0 }
-plain_index (answer.Refused r) = record { refusal = number_of r; found = 0; index = 0 }
+abbrev pub plain_index : Result (Option ℕ) Refusal → IndexReply
+plain_index (Ok (Some k)) = record { refusal = 0; found = 1; index = k }
+plain_index (Ok None) = record { refusal = 0; found = 0; index = 0 }
+plain_index (Err r) = record { refusal = number_of r; found = 0; index = 0 }
 
 -- The promise of the call: the reply is the definition's, and an accepted one meets demand 3; of a prime-modulus model the numbers
 -- from 1 to 2147483646 are found, and no others.

@@ -1,14 +1,15 @@
 -- The orbit of a generator (SCOPE 3.2; document 02, note 5).
-use Rattle.std.specs.Prelude.{◌≡◌, ℕ, zero, suc, ◌%◌, ◌^◌, ◌≤◌}
+use Rattle.std.specs.Prelude.{◌≡◌, Result, Ok, Err, ℕ, zero, suc, ◌%◌, ◌^◌, ◌≤◌}
 use Rattle.sequences.specs.Orbit.{preperiod_of, period_of, IsOrbit, exponent_of}
 use Rattle.generator.specs.declared.Generator.{Generator}
 use Rattle.generator.specs.declared.Kind.{Kind}
 use Rattle.generator.specs.declared.Kind.TheVariants as kind
 use Rattle.generator.specs.Recurrence.{kind_of, modulus, element}
+use Rattle.refusals.specs.declared.Refusal.{Refusal}
 use Rattle.refusals.specs.Refusals.{number_of}
 use Rattle.generator.specs.Check.{refusal_of}
 use Rattle.orbits.specs.declared.OrbitAnswer.{OrbitAnswer}
-use Rattle.orbits.specs.declared.OrbitAnswer.TheVariants.{Orbit, Period, Refused}
+use Rattle.orbits.specs.declared.OrbitAnswer.TheVariants.{Orbit, Period}
 use Rattle.orbits.specs.declared.OrbitReply.{OrbitReply}
 
 -- The reply for a refusal's number, 0 for none, a kind, a preperiod and a period: the period by its exponent of 2, and of a
@@ -19,10 +20,10 @@ orbit_reply zero kind.Prime t P = record { refusal = 0; preperiod = t; exponent 
 orbit_reply (suc r) k t P = record { refusal = suc r; preperiod = 0; exponent = 0; period = 0 }
 
 -- What an answer says.
-abbrev pub plain_orbit : OrbitAnswer → OrbitReply
-plain_orbit (Orbit t e) = record { refusal = 0; preperiod = t; exponent = e; period = 0 }
-plain_orbit (Period t P) = record { refusal = 0; preperiod = t; exponent = 0; period = P }
-plain_orbit (Refused r) = record { refusal = number_of r; preperiod = 0; exponent = 0; period = 0 }
+abbrev pub plain_orbit : Result OrbitAnswer Refusal → OrbitReply
+plain_orbit (Ok (Orbit t e)) = record { refusal = 0; preperiod = t; exponent = e; period = 0 }
+plain_orbit (Ok (Period t P)) = record { refusal = 0; preperiod = t; exponent = 0; period = P }
+plain_orbit (Err r) = record { refusal = number_of r; preperiod = 0; exponent = 0; period = 0 }
 
 -- The period that a reply carries: itself or, where that is 0, by its exponent.
 abbrev pub carried : ℕ → ℕ → ℕ

@@ -2,7 +2,6 @@
 ghost use Rattle.std.specs.Prelude.{◌≡◌, suc};
 ghost use Rattle.sequences.specs.Orbit.{IsPower, exponent_of};
 
-use std::num::wrapping_add_u64;
 use words::alpha;
 
 // From the period less 1. A period of 2^64 wraps to 0, whose α is 64.
@@ -10,5 +9,5 @@ pub fn exponent_of(last: u64) -> u64
     requires { IsPower (suc last) }
     ensures { result ≡ exponent_of (suc last) }
 {
-    alpha(wrapping_add_u64(last, 1))
+    alpha(last.wrapping_add(1))
 }

@@ -14,8 +14,7 @@ pub fn orbit_of(g: Generator) -> Orbit
     requires { refusal_of g ≡ 0 }
     ensures { OrbitIs (element g) (modulus g) result }
 {
-    let kind = kind_of(g);
-    match kind {
+    match kind_of(g) {
         Kind::Linear => linear_orbits::orbit::orbit(g),
         Kind::Prime => prime::orbit(g),
     }
@@ -26,8 +25,7 @@ pub fn indices_of(g: Generator, y: u64) -> Indices
     requires { refusal_of g ≡ 0 }
     ensures { IndicesAre (element g) y (modulus g) result }
 {
-    let kind = kind_of(g);
-    match kind {
+    match kind_of(g) {
         Kind::Linear => linear_orbits::indices::indices(g, g.width, y),
         Kind::Prime => prime::indices(g, y),
     }

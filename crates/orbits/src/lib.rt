@@ -7,12 +7,11 @@ ghost use Rattle.orbits.specs.Index.{IndexPromise, plain_index};
 
 use exponent::exponent_of;
 use generator::{Generator, Kind, checked, kind_of};
-use refusals::{Check, Refusal};
+use refusals::Refusal;
 use sequences::Orbit;
 
 pub mod exponent;
 pub mod kinds;
-pub mod linear;
 pub mod plain;
 pub mod prime;
 
@@ -21,14 +20,6 @@ pub mod prime;
 pub enum OrbitAnswer {
     Orbit { preperiod: u64, exponent: u64 },
     Period { preperiod: u64, period: u64 },
-    Refused(Refusal),
-}
-
-#[derive(Clone, Copy)]
-pub enum IndexAnswer {
-    At(u64),
-    Never,
-    Refused(Refusal),
 }
 
 // The same in plain numbers: the refusal's number, 0 for none, and zeros beside a refusal. Where period is 0 it is 2^exponent,
@@ -52,16 +43,13 @@ pub struct IndexReply {
 }
 
 // The preperiod and the period of a generator.
-pub fn orbit(g: Generator) -> OrbitAnswer
+#[tactic(auto, using(crate::proofs::Orbits::orbit_refused, crate::proofs::Orbits::orbit_power, crate::proofs::Orbits::prime_last, crate::proofs::Orbits::orbit_linear, crate::proofs::Orbits::orbit_prime))]
+pub fn orbit(g: Generator) -> Result<OrbitAnswer, Refusal>
     ensures { OrbitPromise g (plain_orbit result) }
 {
-    let verdict = checked(g);
-    if let Check::Refused(refusal) = verdict {
-        return OrbitAnswer::Refused(refusal);
-    }
+    checked(g)?;
     let found = kinds::orbit_of(g);
-    let kind = kind_of(g);
-    match kind {
+    Ok(match kind_of(g) {
         Kind::Linear => OrbitAnswer::Orbit {
             preperiod: found.preperiod,
             exponent: exponent_of(found.last),
@@ -70,21 +58,18 @@ pub fn orbit(g: Generator) -> OrbitAnswer
             preperiod: found.preperiod,
             period: found.last + 1,
         },
-    }
+    })
 }
 
-// The least index that yields `value`, or never. It has a search for each kind, and not the one of `kinds` for both: that would
+// The least index that yields `value`, or none. It has a search for each kind, and not the one of `kinds` for both: that would
 // be too long to be compiled into the call.
-pub fn index(g: Generator, value: u64) -> IndexAnswer
+#[tactic(auto, using(crate::proofs::Indices::index_refused, crate::proofs::Indices::index_given))]
+pub fn index(g: Generator, value: u64) -> Result<Option<u64>, Refusal>
     ensures { IndexPromise g value (plain_index result) }
 {
-    let verdict = checked(g);
-    if let Check::Refused(refusal) = verdict {
-        return IndexAnswer::Refused(refusal);
-    }
-    let kind = kind_of(g);
-    match kind {
-        Kind::Linear => linear::index(g, value),
-        Kind::Prime => prime::index(g, value),
+    checked(g)?;
+    match kind_of(g) {
+        Kind::Linear => Ok(linear_orbits::indices::indices(g, g.width, value).least()),
+        Kind::Prime => Ok(prime::indices(g, value).least()),
     }
 }

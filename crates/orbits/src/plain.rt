@@ -3,55 +3,61 @@ ghost use Rattle.std.specs.Prelude.{◌≡◌};
 ghost use Rattle.orbits.specs.Orbit.{plain_orbit};
 ghost use Rattle.orbits.specs.Index.{plain_index};
 
-use crate::{IndexAnswer, IndexReply, OrbitAnswer, OrbitReply};
-use refusals::number;
+use crate::{IndexReply, OrbitAnswer, OrbitReply};
+use refusals::{Refusal, number};
 
-pub fn of_orbit(answer: OrbitAnswer) -> OrbitReply
-    ensures { result ≡ plain_orbit answer }
-{
-    match answer {
-        OrbitAnswer::Orbit {
-            preperiod,
-            exponent,
-        } => OrbitReply {
-            refusal: 0,
-            preperiod,
-            exponent,
-            period: 0,
-        },
-        OrbitAnswer::Period { preperiod, period } => OrbitReply {
-            refusal: 0,
-            preperiod,
-            exponent: 0,
-            period,
-        },
-        OrbitAnswer::Refused(refusal) => OrbitReply {
-            refusal: number(refusal),
-            preperiod: 0,
-            exponent: 0,
-            period: 0,
-        },
+impl From<Result<OrbitAnswer, Refusal>> for OrbitReply {
+    ghost from_gives = { λ answer r. r ≡ plain_orbit answer };
+
+    fn from(answer: Result<OrbitAnswer, Refusal>) -> OrbitReply {
+        match answer {
+            Ok(
+                OrbitAnswer::Orbit {
+                    preperiod,
+                    exponent,
+                },
+            ) => OrbitReply {
+                refusal: 0,
+                preperiod,
+                exponent,
+                period: 0,
+            },
+            Ok(OrbitAnswer::Period { preperiod, period }) => OrbitReply {
+                refusal: 0,
+                preperiod,
+                exponent: 0,
+                period,
+            },
+            Err(refusal) => OrbitReply {
+                refusal: number(refusal),
+                preperiod: 0,
+                exponent: 0,
+                period: 0,
+            },
+        }
     }
 }
 
-pub fn of_index(answer: IndexAnswer) -> IndexReply
-    ensures { result ≡ plain_index answer }
-{
-    match answer {
-        IndexAnswer::At(index) => IndexReply {
-            refusal: 0,
-            found: 1,
-            index,
-        },
-        IndexAnswer::Never => IndexReply {
-            refusal: 0,
-            found: 0,
-            index: 0,
-        },
-        IndexAnswer::Refused(refusal) => IndexReply {
-            refusal: number(refusal),
-            found: 0,
-            index: 0,
-        },
+impl From<Result<Option<u64>, Refusal>> for IndexReply {
+    ghost from_gives = { λ answer r. r ≡ plain_index answer };
+
+    fn from(answer: Result<Option<u64>, Refusal>) -> IndexReply {
+        match answer {
+            Ok(Some(index)) => IndexReply {
+                refusal: 0,
+                found: 1,
+                index,
+            },
+            Ok(None) => IndexReply {
+                refusal: 0,
+                found: 0,
+                index: 0,
+            },
+            Err(refusal) => IndexReply {
+                refusal: number(refusal),
+                found: 0,
+                index: 0,
+            },
+        }
     }
 }

@@ -5,18 +5,15 @@ ghost use Rattle.player.specs.PlainPlayer.{held_refusal};
 ghost use Rattle.player.specs.Player.{plain_player};
 
 use crate::Player;
-use refusals::{Check, Refusal};
+use refusals::Refusal;
 
 // The run held, and then the position held.
-pub fn held(player: Player) -> Check
+pub fn held(player: Player) -> Result<(), Refusal>
     ensures { check_number result ≡ held_refusal (plain_player player) }
 {
-    let verdict = runs::checked(player.run);
-    if let Check::Refused(_) = verdict {
-        return verdict;
-    }
+    runs::checked(player.run)?;
     if player.run.count <= player.position {
-        return Check::Refused(Refusal::PositionOutOfRange);
+        return Err(Refusal::PositionOutOfRange);
     }
-    Check::Accepted
+    Ok(())
 }

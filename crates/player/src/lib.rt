@@ -7,7 +7,7 @@ ghost use Rattle.player.specs.Player.{PlayerPromise, told};
 
 use checks::held;
 use generator::kinds::value_of;
-use refusals::{Check, Refusal, ValueAnswer, ValueReply, of_value};
+use refusals::{Refusal, ValueReply};
 use runs::Run;
 use states::{accepted, declined, moved};
 
@@ -53,7 +53,7 @@ pub fn opened(before: Player, run: Run) -> Outcome
         marks,
     };
     let verdict = runs::checked(run);
-    if let Check::Refused(refusal) = verdict {
+    if let Err(refusal) = verdict {
         return declined(refusal, before);
     }
     accepted(fresh)
@@ -64,7 +64,7 @@ pub fn forwarded(player: Player, steps: u64) -> Outcome
     ensures { PlayerPromise (Forward steps) player result.player (told result.refusal) }
 {
     let verdict = held(player);
-    if let Check::Refused(refusal) = verdict {
+    if let Err(refusal) = verdict {
         return declined(refusal, player);
     }
     if player.run.count - player.position <= steps {
@@ -78,7 +78,7 @@ pub fn moved_back(player: Player, steps: u64) -> Outcome
     ensures { PlayerPromise (Back steps) player result.player (told result.refusal) }
 {
     let verdict = held(player);
-    if let Check::Refused(refusal) = verdict {
+    if let Err(refusal) = verdict {
         return declined(refusal, player);
     }
     if player.position < steps {
@@ -92,7 +92,7 @@ pub fn marked(player: Player, mark: u64) -> Outcome
     ensures { PlayerPromise (SetMark mark) player result.player (told result.refusal) }
 {
     let verdict = held(player);
-    if let Check::Refused(refusal) = verdict {
+    if let Err(refusal) = verdict {
         return declined(refusal, player);
     }
     if 3 < mark {
@@ -114,7 +114,7 @@ pub fn returned(player: Player, to: u64) -> Outcome
     ensures { PlayerPromise (Return to) player result.player (told result.refusal) }
 {
     let verdict = held(player);
-    if let Check::Refused(refusal) = verdict {
+    if let Err(refusal) = verdict {
         return declined(refusal, player);
     }
     if 3 < to {
@@ -136,9 +136,9 @@ pub fn shown(player: Player) -> ValueReply
     ensures { PlayerPromise Show player player result }
 {
     let verdict = held(player);
-    if let Check::Refused(refusal) = verdict {
-        return of_value(ValueAnswer::Refused(refusal));
+    if let Err(refusal) = verdict {
+        return of_value(Err(refusal));
     }
     let index = player.run.first + player.position;
-    of_value(ValueAnswer::Value(value_of(player.run.generator, index)))
+    of_value(Ok(value_of(player.run.generator, index)))
 }

@@ -1,5 +1,6 @@
 -- One step is undone by an odd multiplier's inverse, and since an odd factor cancels nothing else steps to the same number. The
 -- same holds of 16807 modulo 2147483647.
+use Rattle.std.specs.Prelude.{Ok, Err}
 use Rattle.std.proofs.Common.{◌≡◌, ℕ, ◌+◌, ◌*◌, ◌%◌, ◌^◌, ◌<◌, false, cond, ◌||◌, eqb, leb, sym, ap, ◌∙◌, lt_of_lt_of_le, le_of_lt, mod-lt, mod-eq_of_lt, arith, pow_pos, pow_mono, eq-eqb, ne_eqb, leb-false}
 use Rattle.words.proofs.Congruence.{Congruent, same_refl, same_trans, same_regroup, same_result, same_add, same_scale, same_lower, same_add_cancel, same_below, odd_cancel}
 use Rattle.generator.specs.declared.Generator.{Generator}
@@ -7,7 +8,6 @@ use Rattle.generator.specs.declared.Kind.{Kind}
 use Rattle.generator.specs.declared.Kind.TheVariants as kind
 use Rattle.generator.specs.Kinds.{KindIs}
 use Rattle.refusals.specs.declared.Refusal.{Refusal}
-use Rattle.refusals.specs.declared.ValueAnswer.TheVariants.{Value, Refused}
 use Rattle.generator.specs.Recurrence.{kind_of, modulus, step}
 use Rattle.generator.specs.Check.{refusal_of, parity_refusal}
 use Rattle.refusals.specs.Refusals.{number_of}
@@ -143,12 +143,12 @@ module _ (g : Generator) (y : ℕ) (e : predecessor_refusal g y ≡ 0) where
 -- the promise of the call, where it refuses and where it answers
 pub predecessor_refused :
     (g : Generator) (y : ℕ) (x : Refusal) → number_of x ≡ predecessor_refusal g y →
-    PredecessorPromise g y (plain_value (Refused x))
+    PredecessorPromise g y (plain_value (Err x))
 predecessor_refused g y x e =
     record { equals = value_refused x _ e; unique = λ z. absurd (number_nonzero x z) }
 
 pub predecessor_given :
     (g : Generator) (y : ℕ) {z : ℕ} → predecessor_refusal g y ≡ 0 → OnlyPredecessor g y z →
-    PredecessorPromise g y (plain_value (Value z))
+    PredecessorPromise g y (plain_value (Ok z))
 predecessor_given g y e o =
     record { equals = value_given _ e (sym (only_is_least o)); unique = λ z. o }

@@ -12,10 +12,9 @@ pub fn out_of_range(g: Generator, value: u64) -> bool
     requires { refusal_of g ≡ 0 }
     ensures { result ≡ value_out_of_range g value }
 {
-    let kind = kind_of(g);
-    match kind {
+    match kind_of(g) {
         Kind::Linear => exceeds(value, g.width),
-        Kind::Prime => prime::out_of_range(value),
+        Kind::Prime => generator::prime::out_of_range(value),
     }
 }
 
@@ -24,8 +23,7 @@ pub fn previous_of(g: Generator, y: u64) -> u64
     requires { predecessor_refusal g y ≡ 0 }
     ensures { OnlyPredecessor g y result }
 {
-    let kind = kind_of(g);
-    match kind {
+    match kind_of(g) {
         Kind::Linear => linear::step_back(g, y),
         Kind::Prime => prime::step_back(g, y),
     }

@@ -9,33 +9,29 @@ ghost use Rattle.predecessors.specs.Predecessor.{predecessor_refusal, Predecesso
 
 use generator::{Generator, checked, parity_checked};
 use kinds::out_of_range;
-use refusals::{Check, Refusal, ValueAnswer};
+use refusals::Refusal;
 
 pub mod kinds;
 pub mod linear;
 pub mod prime;
 
 // The conditions of the predecessor call.
-fn predecessor_checked(g: Generator, value: u64) -> Check
+#[tactic(auto, unfolding(crate::specs::Predecessor::predecessor_refusal))]
+fn predecessor_checked(g: Generator, value: u64) -> Result<(), Refusal>
     ensures { check_number result ≡ predecessor_refusal g value }
 {
-    let verdict = checked(g);
-    if let Check::Refused(_) = verdict {
-        return verdict;
-    }
+    checked(g)?;
     if out_of_range(g, value) {
-        return Check::Refused(Refusal::ValueOutOfRange);
+        return Err(Refusal::ValueOutOfRange);
     }
     parity_checked(g)
 }
 
 // The only number that one step takes to `value`.
-pub fn predecessor(g: Generator, value: u64) -> ValueAnswer
+#[tactic(auto, using(crate::proofs::StepBack::predecessor_refused, crate::proofs::StepBack::predecessor_given))]
+pub fn predecessor(g: Generator, value: u64) -> Result<u64, Refusal>
     ensures { PredecessorPromise g value (plain_value result) }
 {
-    let verdict = predecessor_checked(g, value);
-    if let Check::Refused(refusal) = verdict {
-        return ValueAnswer::Refused(refusal);
-    }
-    ValueAnswer::Value(kinds::previous_of(g, value))
+    predecessor_checked(g, value)?;
+    Ok(kinds::previous_of(g, value))
 }

@@ -4,7 +4,6 @@ ghost use Rattle.predecessors.specs.Predecessor.{OnlyPredecessor};
 ghost use Rattle.generator.specs.Linear.{Linear};
 
 use generator::Generator;
-use std::num::wrapping_sub_u64;
 use words::bits::low_bits;
 use words::units::inverse;
 use words::wrapping_mul;
@@ -13,7 +12,7 @@ use words::wrapping_mul;
 fn before_increment(y: u64, c: u64) -> u64
     ensures { (result + c) % 2 ^ 64 ≡ y }
 {
-    wrapping_sub_u64(y, c)
+    y.wrapping_sub(c)
 }
 
 // The only number that one step of an accepted generator with an odd multiplier takes to y.

@@ -1,4 +1,5 @@
 -- Remaking: a turn of the loop adds one number to those at the buffer's front, and the ways out of the call.
+use Rattle.std.specs.Prelude.{Ok, Err}
 use mathlib.Core.Path.{◌≡◌, refl, sym, ap, ap₂, ◌∙◌}
 use mathlib.Core.List.{List, [], ◌∷◌, ◌++◌}
 use Prim.Native.Nat.{ℕ, zero, suc, ◌+◌, ◌≤◌, ◌<◌}
@@ -8,7 +9,6 @@ use native.Mathlib.Omega.{arith}
 use lib.ListN.{length, take, drop, set, length-set, take-append-drop}
 use lib.Seq.{take-suc-set, drop-set-lt, drop-drop}
 use Rattle.refusals.specs.declared.Refusal.{Refusal}
-use Rattle.refusals.specs.declared.ValueAnswer.TheVariants.{Value, Refused}
 use Rattle.generator.specs.Recurrence.{step, element}
 use Rattle.refusals.specs.Refusals.{number_of}
 use Rattle.refusals.specs.Replies.{plain_value}
@@ -78,16 +78,16 @@ module _ {run : Run} {p : ℕ} {before buffer : List ℕ} {number k : ℕ} (s : 
 
 -- The ways out of the call.
 pub remake_refused : (run : Run) (p : ℕ) (buffer : List ℕ) (x : Refusal) → number_of x ≡ run_refusal run →
-    RemakePromise run p buffer buffer (plain_value (Refused x))
+    RemakePromise run p buffer buffer (plain_value (Err x))
 remake_refused run p buffer x e =
     record { equals = value_refused x _ e; buffer = let k = number_suc x in rw (← e, k.1) }
 
 module _ (run : Run) (p : ℕ) {before : List ℕ} (z : run_refusal run ≡ 0) where
   pub remake_done : {after : List ℕ} {n : ℕ} → n ≡ remade_count run p (length before) → after ≡ remade_front run p n before →
-      RemakePromise run p before after (plain_value (Value n))
+      RemakePromise run p before after (plain_value (Ok n))
   remake_done {after} {n} e w =
       record { equals = value_given _ z e; buffer = rw z (w ∙ ap (λ (j : ℕ). remade_front run p j before) e) }
 
-  pub remake_none : run.count ≤ p → RemakePromise run p before before (plain_value (Value 0))
+  pub remake_none : run.count ≤ p → RemakePromise run p before before (plain_value (Ok 0))
   unfolding shown_from
   remake_none h = remake_done (omega arith) refl

@@ -10,10 +10,7 @@ use runs::Run;
 pub fn fitting(room: usize, left: u64) -> usize
     ensures { result ≡ min room left }
 {
-    if left < room as u64 {
-        return left as usize;
-    }
-    room
+    left.min(room as u64) as usize
 }
 
 // Writes n numbers of a run, from this position on, to the front of a buffer: one jump, then single steps.
@@ -25,11 +22,9 @@ pub fn fill(run: Run, position: u64, n: usize, numbers: &mut [u64])
 {
     let index = run.first + position;
     let mut number = value_of(run.generator, index);
-    let mut k = 0;
-    while k < n {
+    for place in &mut numbers[..n] {
         let next = next_of(run.generator, number);
-        numbers[k] = number;
+        *place = number;
         number = next;
-        k += 1;
     }
 }

@@ -5,23 +5,20 @@ ghost use Rattle.refusals.specs.Replies.{plain_value};
 ghost use Rattle.remake.specs.Remake.{RemakePromise};
 
 use filling::{fill, fitting};
-use refusals::{Check, ValueAnswer};
+use refusals::Refusal;
 use runs::{Run, checked};
 
 pub mod filling;
 
 // Writes what the run shows from this position on to the buffer's front, as much as both have, and gives how many numbers.
-pub fn remake(run: Run, position: u64, numbers: &mut [u64]) -> ValueAnswer
+pub fn remake(run: Run, position: u64, numbers: &mut [u64]) -> Result<u64, Refusal>
     ensures { RemakePromise run position numbers.old numbers.new (plain_value result) }
 {
-    let verdict = checked(run);
-    if let Check::Refused(refusal) = verdict {
-        return ValueAnswer::Refused(refusal);
-    }
+    checked(run)?;
     if run.count <= position {
-        return ValueAnswer::Value(0);
+        return Ok(0);
     }
     let given = fitting(numbers.len(), run.count - position);
     fill(run, position, given, numbers);
-    ValueAnswer::Value(given as u64)
+    Ok(given as u64)
 }

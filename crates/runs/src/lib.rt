@@ -6,7 +6,7 @@ ghost use Rattle.refusals.specs.Refusals.{check_number};
 ghost use Rattle.runs.specs.Run.{run_refusal};
 
 use generator::Generator;
-use refusals::{Check, Refusal};
+use refusals::Refusal;
 
 pub mod start;
 
@@ -20,18 +20,13 @@ pub struct Run {
 }
 
 // The conditions on a run.
-pub fn checked(run: Run) -> Check
+#[tactic(auto, unfolding(crate::specs::Run::run_refusal))]
+pub fn checked(run: Run) -> Result<(), Refusal>
     ensures { check_number result ≡ run_refusal run }
 {
-    let verdict = generator::checked(run.generator);
-    if let Check::Refused(_) = verdict {
-        return verdict;
+    generator::checked(run.generator)?;
+    if run.count == 0 || run.first.checked_add(run.count).is_none() {
+        return Err(Refusal::RunOutOfRange);
     }
-    if run.count == 0 {
-        return Check::Refused(Refusal::RunOutOfRange);
-    }
-    if u64::MAX - run.count < run.first {
-        return Check::Refused(Refusal::RunOutOfRange);
-    }
-    Check::Accepted
+    Ok(())
 }

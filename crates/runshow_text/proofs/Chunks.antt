@@ -1,5 +1,6 @@
 -- What remaking and writing a chunk shows, and that chunk after chunk the numbers of a part are written: positions one after the
 -- other show what they show in pieces, and each number is a line of its own.
+use Rattle.std.specs.Prelude.{Result, Ok, Err}
 use mathlib.Core.Path.{◌≡◌, refl, sym, ap, ◌∙◌, subst}
 use mathlib.Core.List.{List, [], ◌∷◌, ◌++◌, append_assoc}
 use Prim.Native.Nat.{ℕ, zero, suc, ◌+◌, ◌-◌, ◌*◌, ◌^◌, ◌≤◌, ◌<◌, min}
@@ -7,8 +8,6 @@ use native.Mathlib.Omega.{arith}
 use lib.ListN.{length, get_or, take, drop, length-append, length-drop, length-take}
 use lib.Seq.{take-append-le, take-append_seam, get_or-take}
 use Rattle.refusals.specs.declared.Refusal.{Refusal}
-use Rattle.refusals.specs.declared.ValueAnswer.{ValueAnswer}
-use Rattle.refusals.specs.declared.ValueAnswer.TheVariants.{Value, Refused}
 use Rattle.refusals.specs.declared.ValueReply.{ValueReply}
 use Rattle.refusals.specs.Replies.{plain_value, value_reply}
 use Rattle.refusals.proofs.Replies.{number_suc}
@@ -91,27 +90,27 @@ due_left room count first many shown =
     ∙ least_assoc room (count - first - shown) (many - shown)
     ∙ ap (min room) (least_less many (count - first) shown)
 
-module _ {run : Run} {p : ℕ} {before numbers : List ℕ} {answer : ValueAnswer}
+module _ {run : Run} {p : ℕ} {before numbers : List ℕ} {answer : (Result ℕ Refusal)}
     (r : RemakePromise run p before numbers (plain_value answer)) where
   -- a run that is refused
-  pub chunk_none : {x : Refusal} {first shown : ℕ} → answer ≡ Refused x → p ≡ first + shown → (many : ℕ) (buf : List ℕ) →
+  pub chunk_none : {x : Refusal} {first shown : ℕ} → answer ≡ Err x → p ≡ first + shown → (many : ℕ) (buf : List ℕ) →
       ChunkPromise run first many shown (length before) buf buf (record { made = 0; bytes = 0 })
   chunk_none {x} {first} {shown} e at many buf =
       let k = number_suc x in
       let n : run_refusal run ≡ suc k.0 =
-      sym (refusal_is (run_refusal run) _ r.equals) ∙ ap (λ (a : ValueAnswer). (plain_value a).refusal) e ∙ k.1 in
+      sym (refusal_is (run_refusal run) _ r.equals) ∙ ap (λ (a : (Result ℕ Refusal)). (plain_value a).refusal) e ∙ k.1 in
       let w = nothing_written run (first + shown) buf in
       record { count = rw n (omega arith); written = w; joined = joined_front run first shown 0 w }
 
-  module _ {n : ℕ} (e : answer ≡ Value n) where
+  module _ {n : ℕ} (e : answer ≡ Ok n) where
     zero_refusal : run_refusal run ≡ 0
-    zero_refusal = sym (refusal_is (run_refusal run) _ r.equals) ∙ ap (λ (a : ValueAnswer). (plain_value a).refusal) e
+    zero_refusal = sym (refusal_is (run_refusal run) _ r.equals) ∙ ap (λ (a : (Result ℕ Refusal)). (plain_value a).refusal) e
 
     count_is : n ≡ remade_count run p (length before)
     count_is =
-        let same : plain_value (Value n) ≡ value_reply (run_refusal run) (remade_count run p (length before)) =
-        ap (λ (a : ValueAnswer). plain_value a) (sym e) ∙ r.equals in
-        let plain : plain_value (Value n) ≡ value_reply 0 (remade_count run p (length before)) = rw zero_refusal at same in
+        let same : plain_value (Ok n) ≡ value_reply (run_refusal run) (remade_count run p (length before)) =
+        ap (λ (a : (Result ℕ Refusal)). plain_value a) (sym e) ∙ r.equals in
+        let plain : plain_value (Ok n) ≡ value_reply 0 (remade_count run p (length before)) = rw zero_refusal at same in
         ap (λ (v : ValueReply). v.value) plain
 
     buffer_is : numbers ≡ shown_from run p n ++ drop n before

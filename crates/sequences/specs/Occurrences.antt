@@ -1,5 +1,5 @@
 -- All indices at which a sequence yields a number, and the low places of a sequence (document 02, note 3; SCOPE 3.8).
-use Rattle.std.specs.Prelude.{◌≡◌, ◌↔◌, ◌⊎◌, ℕ, suc, ◌+◌, ◌*◌, ◌%◌, ◌^◌, ◌≤◌, ◌<◌}
+use Rattle.std.specs.Prelude.{◌≡◌, ◌↔◌, ◌⊎◌, Option, Some, None, ℕ, suc, ◌+◌, ◌*◌, ◌%◌, ◌^◌, ◌≤◌, ◌<◌}
 use Rattle.sequences.specs.declared.Indices.{Indices}
 use Rattle.sequences.specs.declared.Indices.TheVariants.{Once, Every, Never}
 use Rattle.sequences.specs.Index.{LeastIndex, Located, Absent}
@@ -39,3 +39,9 @@ abbrev pub IndicesAre : (ℕ → ℕ) → ℕ → ℕ → Indices → Type 0
 IndicesAre x y bound (Once k) = Alone x y bound k
 IndicesAre x y bound (Every k last) = Recurring x y bound k (suc last)
 IndicesAre x y bound Never = Absent x y
+
+-- The least of these indices, if there is one.
+abbrev pub least_of : Indices → Option ℕ
+least_of (Once k) = Some k
+least_of (Every k last) = Some k
+least_of Never = None

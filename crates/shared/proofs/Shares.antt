@@ -1,6 +1,7 @@
 -- What two runs share, by one search. Both generators have the steps of one rule, so that the laws of two sequences of one step
 -- apply. Where the second seed stands at index j of the first generator, both go round one circle, and the second run starts at
 -- the place j + (its first index); otherwise the runs are on different circles.
+use Rattle.std.specs.Prelude.{Ok, Err}
 use mathlib.Core.Path.{◌≡◌, refl, sym, ◌∙◌}
 use Prim.Native.Nat.{ℕ, suc, ◌+◌, ◌%◌, ◌≤◌}
 use native.Mathlib.Omega.{arith}
@@ -25,7 +26,6 @@ use Rattle.gaps.specs.Gap.{gap_refusal}
 use Rattle.gaps.proofs.Gaps.{every_located, other_absent}
 use Rattle.orbits.proofs.Orbits.{odd_has_orbit}
 use Rattle.refusals.specs.declared.Refusal.{Refusal}
-use Rattle.refusals.specs.declared.ValueAnswer.TheVariants.{Value, Refused}
 use Rattle.refusals.specs.Refusals.{number_of}
 use Rattle.refusals.specs.Replies.{plain_value}
 use Rattle.refusals.proofs.Replies.{number_nonzero, value_refused, value_given}
@@ -111,7 +111,7 @@ module _ (first second : Run) (z : shared_refusal first second ≡ 0) where
 
 -- The promise of the call.
 pub shared_given : (first second : Run) {v : ℕ} → shared_refusal first second ≡ 0 → v ≡ shared_of first second →
-    SharedPromise first second (plain_value (Value v))
+    SharedPromise first second (plain_value (Ok v))
 unfolding shared_of
 shared_given first second z e =
     record {
@@ -120,7 +120,7 @@ shared_given first second z e =
     }
 
 pub shared_refused : (first second : Run) (x : Refusal) → number_of x ≡ shared_refusal first second →
-    SharedPromise first second (plain_value (Refused x))
+    SharedPromise first second (plain_value (Err x))
 shared_refused first second x e =
     record { equals = value_refused x _ e; meaning = λ z. absurd (number_nonzero x z) }
 

@@ -4,30 +4,30 @@ ghost use Rattle.refusals.specs.Refusals.{check_number};
 ghost use Rattle.shared.specs.Shared.{rule_refusal, shared_refusal};
 
 use generator::Generator;
-use refusals::{Check, Refusal, or_else};
+use refusals::{Refusal, or_else};
 use runs::{Run, checked};
 
 // Both generators have one rule, with an odd multiplier.
-pub fn rule_checked(g: Generator, h: Generator) -> Check
+pub fn rule_checked(g: Generator, h: Generator) -> Result<(), Refusal>
     ensures { check_number result ≡ rule_refusal g h }
 {
     if g.width != h.width {
-        return Check::Refused(Refusal::Incompatible);
+        return Err(Refusal::Incompatible);
     }
     if g.multiplier != h.multiplier {
-        return Check::Refused(Refusal::Incompatible);
+        return Err(Refusal::Incompatible);
     }
     if g.increment != h.increment {
-        return Check::Refused(Refusal::Incompatible);
+        return Err(Refusal::Incompatible);
     }
     if g.multiplier % 2 == 0 {
-        return Check::Refused(Refusal::Incompatible);
+        return Err(Refusal::Incompatible);
     }
-    Check::Accepted
+    Ok(())
 }
 
 // The first run's conditions, the second's, then those on both.
-pub fn shared_checked(first: Run, second: Run) -> Check
+pub fn shared_checked(first: Run, second: Run) -> Result<(), Refusal>
     ensures { check_number result ≡ shared_refusal first second }
 {
     let one = checked(first);

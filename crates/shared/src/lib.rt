@@ -6,7 +6,7 @@ ghost use Rattle.shared.specs.Shared.{SharedPromise};
 
 use checks::shared_checked;
 use counts::shared_of;
-use refusals::{Check, ValueAnswer};
+use refusals::Refusal;
 use runs::Run;
 
 pub mod checks;
@@ -14,12 +14,9 @@ pub mod circle;
 pub mod counts;
 
 // How many different numbers occur in both runs.
-pub fn shared(first: Run, second: Run) -> ValueAnswer
+pub fn shared(first: Run, second: Run) -> Result<u64, Refusal>
     ensures { SharedPromise first second (plain_value result) }
 {
-    let verdict = shared_checked(first, second);
-    if let Check::Refused(refusal) = verdict {
-        return ValueAnswer::Refused(refusal);
-    }
-    ValueAnswer::Value(shared_of(first, second))
+    shared_checked(first, second)?;
+    Ok(shared_of(first, second))
 }

@@ -1,4 +1,5 @@
 -- The variety of a run, read off an orbit.
+use Rattle.std.specs.Prelude.{Ok, Err}
 use mathlib.Core.Path.{◌≡◌, sym, ◌∙◌}
 use Prim.Native.Nat.{ℕ, suc, ◌+◌, ◌-◌, min}
 use Rattle.sequences.specs.declared.Orbit.{Orbit}
@@ -8,7 +9,6 @@ use Rattle.runs.proofs.Runs.{valid_run}
 use Rattle.sequences.specs.Distinct.{Distinct}
 use Rattle.sequences.proofs.Distinct.{distinct_is, distinct_only, distinct_from}
 use Rattle.refusals.specs.declared.Refusal.{Refusal}
-use Rattle.refusals.specs.declared.ValueAnswer.TheVariants.{Value, Refused}
 use Rattle.generator.specs.Recurrence.{modulus, element}
 use Rattle.refusals.specs.Refusals.{number_of}
 use Rattle.refusals.specs.Replies.{plain_value}
@@ -30,7 +30,7 @@ module _ (run : Run) where
   unfolding variety_of
   variety_is is e = e ∙ sym (distinct_is (distinct_by is.orbit))
 
-  pub variety_given : {v : ℕ} → run_refusal run ≡ 0 → v ≡ variety_of run → VarietyPromise run (plain_value (Value v))
+  pub variety_given : {v : ℕ} → run_refusal run ≡ 0 → v ≡ variety_of run → VarietyPromise run (plain_value (Ok v))
   unfolding variety_of
   variety_given {v} z e =
       record {
@@ -45,7 +45,7 @@ module _ (run : Run) where
       means : Distinct (shows run) run.count v
       means = let d = distinct_by any.1.orbit in rw (e ∙ distinct_is d) d
 
-pub variety_refused : (run : Run) (x : Refusal) → number_of x ≡ run_refusal run → VarietyPromise run (plain_value (Refused x))
+pub variety_refused : (run : Run) (x : Refusal) → number_of x ≡ run_refusal run → VarietyPromise run (plain_value (Err x))
 variety_refused run x e =
     record {
       equals = value_refused x _ e;

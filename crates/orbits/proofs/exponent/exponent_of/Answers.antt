@@ -9,5 +9,5 @@ pub returns : goal.returns
 returns c =
     let p = c.requires in
     alpha_power p.exponent p.small
-    (c.wrapping_add_u64.ensures.value ∙ ap (λ (n : ℕ). n % 2 ^ 64) (add-one c.args.last ∙ p.power)) c.alpha.ensures
+    (ap (λ (n : ℕ). n % 2 ^ 64) (add-one c.args.last ∙ p.power)) c.alpha.ensures
     ∙ sym (exponent_is p.exponent p.small) ∙ ap exponent_of (sym p.power)

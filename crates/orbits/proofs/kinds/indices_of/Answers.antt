@@ -7,13 +7,13 @@ use Rattle.orbits.proofs.kinds.indices_of.Goals as goal
 
 pub indices-requires : goal.indices-requires
 indices-requires c =
-    let v = kind_told c.kind_of-kind.ensures c.in-Linear.is c.requires in (v, v.width_low, le_refl _)
+    let v = kind_told c.kind_of.ensures c.in-Linear.is c.requires in (v, v.width_low, le_refl _)
 
 pub indices-requires-in-Prime : goal.indices-requires-in-Prime
 indices-requires-in-Prime c =
-    kind_told c.kind_of-kind.ensures c.in-Prime.is c.requires
+    kind_told c.kind_of.ensures c.in-Prime.is c.requires
 
 pub returns-in-Linear : goal.returns-in-Linear
 returns-in-Linear c =
-    let v = kind_told c.kind_of-kind.ensures c.in-Linear.is c.requires in
+    let v = kind_told c.kind_of.ensures c.in-Linear.is c.requires in
     whole_indices (reduced v) _ _ c.indices.result c.indices.ensures

@@ -4,8 +4,8 @@ use Rattle.orbits.proofs.kinds.orbit_of.Goals as goal
 
 pub orbit-requires : goal.orbit-requires
 orbit-requires c =
-    kind_told c.kind_of-kind.ensures c.in-Linear.is c.requires
+    kind_told c.kind_of.ensures c.in-Linear.is c.requires
 
 pub orbit-requires-in-Prime : goal.orbit-requires-in-Prime
 orbit-requires-in-Prime c =
-    kind_told c.kind_of-kind.ensures c.in-Prime.is c.requires
+    kind_told c.kind_of.ensures c.in-Prime.is c.requires

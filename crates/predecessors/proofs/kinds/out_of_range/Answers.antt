@@ -4,14 +4,10 @@ use Rattle.generator.proofs.Refusals.{kind_told}
 use Rattle.predecessors.proofs.StepBack.{range_linear, range_prime}
 use Rattle.predecessors.proofs.kinds.out_of_range.Goals as goal
 
-pub exceeds-requires : goal.exceeds-requires
-exceeds-requires c =
-    let v = kind_told c.kind_of-kind.ensures c.in-Linear.is c.requires in (v.width_low, v.width_high)
-
 pub returns-in-Linear : goal.returns-in-Linear
 returns-in-Linear c =
-    c.exceeds.ensures ∙ range_linear c.args.g _ (c.kind_of-kind.ensures.is ∙ c.in-Linear.is)
+    c.exceeds.ensures ∙ range_linear c.args.g _ (c.kind_of.ensures.is ∙ c.in-Linear.is)
 
 pub returns-in-Prime : goal.returns-in-Prime
 returns-in-Prime c =
-    c.out_of_range.ensures ∙ range_prime c.args.g _ (c.kind_of-kind.ensures.is ∙ c.in-Prime.is)
+    c.out_of_range.ensures ∙ range_prime c.args.g _ (c.kind_of.ensures.is ∙ c.in-Prime.is)

@@ -26,7 +26,7 @@ use Rattle.refusals.proofs.Conditions.{or_else_none}
 use Rattle.generator.proofs.Refusals.{modulus_word, parity_odd}
 use Rattle.generator.proofs.Elements.{element_next, element_follows}
 use Rattle.refusals.proofs.Replies.{number_suc, number_nonzero}
-use Rattle.gaps.specs.declared.GapAnswer.TheVariants as answer
+use Rattle.std.specs.Prelude.{Some, None, Ok, Err}
 use Rattle.gaps.proofs.SignedCounts.{signed_fits}
 use Rattle.gaps.specs.Gap.{gap_refusal, period, plain_gap, GapPromise}
 use Rattle.orbits.proofs.Orbits.{odd_has_orbit, has_orbit}
@@ -68,7 +68,7 @@ module _ (g : Generator) (z : gap_refusal g ≡ 0) where
 
 -- The promise of the call.
 pub gap_refused : (g : Generator) (from to : ℕ) (r : Refusal) → number_of r ≡ gap_refusal g →
-    GapPromise g from to (plain_gap (answer.Refused r))
+    GapPromise g from to (plain_gap (Err r))
 gap_refused g from to r e =
     record {
       equals = let k = number_suc r in rw (← e, k.1);
@@ -80,7 +80,7 @@ and_false true = refl
 and_false false = refl
 
 pub gap_missing : (g : Generator) (from to : ℕ) → gap_refusal g ≡ 0 → Absent (element g) from ⊎ Absent (element g) to →
-    GapPromise g from to (plain_gap answer.Never)
+    GapPromise g from to (plain_gap (Ok None))
 gap_missing g from to z n =
     record { equals = rw (z, none n); meaning = λ q. gap_never (generator_steps g) orbit n }
   where
@@ -103,7 +103,7 @@ gap_missing g from to z n =
 pub gap_counted : (g : Generator) (from to i j last other : ℕ) {d : ℕ} {steps : ℤ} → gap_refusal g ≡ 0 →
     IndicesAre (element g) from (modulus g) (indices.Every i other) →
     IndicesAre (element g) to (modulus g) (indices.Every j last) → Ahead (suc last) i j d →
-    steps ≡ signed_of (suc last) d → GapPromise g from to (plain_gap (answer.Steps (to_z w64 (of_z w64 steps))))
+    steps ≡ signed_of (suc last) d → GapPromise g from to (plain_gap (Ok (Some (to_z w64 (of_z w64 steps)))))
 gap_counted g from to i j last other {d} {steps} z f t a e =
     rw (e, to_z-of_z w64 (signed_of (suc last) d) fits)
     (record {

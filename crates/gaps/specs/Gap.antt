@@ -1,5 +1,5 @@
 -- The signed number of steps between two numbers of a generator (document 02, note 1; SCOPE 3.7).
-use Rattle.std.specs.Prelude.{◌≡◌, Bool, cond, ◌&&◌, ℕ, zero, suc, ℤ, pos}
+use Rattle.std.specs.Prelude.{◌≡◌, Option, Some, None, Result, Ok, Err, Bool, cond, ◌&&◌, ℕ, zero, suc, ℤ, pos}
 use Rattle.sequences.specs.Orbit.{period_of}
 use Rattle.sequences.specs.Index.{occurs}
 use Rattle.sequences.specs.Gap.{steps_of, SignedSteps}
@@ -7,8 +7,7 @@ use Rattle.generator.specs.declared.Generator.{Generator}
 use Rattle.generator.specs.Recurrence.{modulus, step, element}
 use Rattle.refusals.specs.Refusals.{number_of, or_else}
 use Rattle.generator.specs.Check.{refusal_of, parity_refusal}
-use Rattle.gaps.specs.declared.GapAnswer.{GapAnswer}
-use Rattle.gaps.specs.declared.GapAnswer.TheVariants as answer
+use Rattle.refusals.specs.declared.Refusal.{Refusal}
 use Rattle.gaps.specs.declared.GapReply.{GapReply}
 
 -- 3 and 4, and after them 7.
@@ -27,10 +26,10 @@ gap_reply zero both d =
 gap_reply (suc n) both d = record { refusal = suc n; found = 0; steps = pos 0 }
 
 -- What an answer says.
-abbrev pub plain_gap : GapAnswer → GapReply
-plain_gap (answer.Steps d) = record { refusal = 0; found = 1; steps = d }
-plain_gap answer.Never = record { refusal = 0; found = 0; steps = pos 0 }
-plain_gap (answer.Refused r) = record { refusal = number_of r; found = 0; steps = pos 0 }
+abbrev pub plain_gap : Result (Option ℤ) Refusal → GapReply
+plain_gap (Ok (Some d)) = record { refusal = 0; found = 1; steps = d }
+plain_gap (Ok None) = record { refusal = 0; found = 0; steps = pos 0 }
+plain_gap (Err r) = record { refusal = number_of r; found = 0; steps = pos 0 }
 
 -- The promise of the call: the reply is the definition's, and an accepted one means what note 1 asks for.
 pub record GapPromise (g : Generator) (from to : ℕ) (reply : GapReply) : Type 0 where

@@ -13,13 +13,6 @@ use sequences::Indices;
 pub mod plain;
 pub mod turns;
 
-#[derive(Clone, Copy)]
-pub enum GapAnswer {
-    Steps(i64),
-    Never,
-    Refused(Refusal),
-}
-
 // found is 0 for never.
 #[repr(C)]
 #[derive(Clone, Copy)]
@@ -30,28 +23,26 @@ pub struct GapReply {
 }
 
 // The conditions of the gap call.
+#[tactic(auto, unfolding(crate::specs::Gap::gap_refusal))]
 fn gap_checked(g: Generator) -> Result<(), Refusal>
     ensures { check_number result ≡ gap_refusal g }
 {
-    let general = checked(g);
-    let parity = parity_checked(g);
-    or_else(general, parity)
+    or_else(checked(g), parity_checked(g))
 }
 
-// The steps from one number to another, back where they are negative, or never. Both searches find the period; it is taken from
+// The steps from one number to another, back where they are negative, or none. Both searches find the period; it is taken from
 // the second, so that it need not be kept during that. Without a preperiod what occurs recurs.
-pub fn gap(g: Generator, from: u64, to: u64) -> GapAnswer
+#[tactic(auto, using(crate::proofs::Gaps::gap_accepted, crate::proofs::Gaps::gap_refused))]
+pub fn gap(g: Generator, from: u64, to: u64) -> Result<Option<i64>, Refusal>
     ensures { GapPromise g from to (plain_gap result) }
 {
     gap_checked(g)?;
-    let first = indices_of(g, from);
-    let Indices::Every { index: i, last: _ } = first else {
-        return GapAnswer::Never;
+    let Indices::Every { index: i, .. } = indices_of(g, from) else {
+        return Ok(None);
     };
-    let second = indices_of(g, to);
-    let Indices::Every { index: j, last } = second else {
-        return GapAnswer::Never;
+    let Indices::Every { index: j, last } = indices_of(g, to) else {
+        return Ok(None);
     };
     let d = turns::ahead(i, j, last);
-    GapAnswer::Steps(turns::signed(d, last))
+    Ok(Some(turns::signed(d, last)))
 }

@@ -2,27 +2,29 @@
 ghost use Rattle.std.specs.Prelude.{◌≡◌};
 ghost use Rattle.gaps.specs.Gap.{plain_gap};
 
-use crate::{GapAnswer, GapReply};
-use refusals::number;
+use crate::GapReply;
+use refusals::{Refusal, number};
 
-pub fn of_gap(answer: GapAnswer) -> GapReply
-    ensures { result ≡ plain_gap answer }
-{
-    match answer {
-        GapAnswer::Steps(steps) => GapReply {
-            refusal: 0,
-            found: 1,
-            steps,
-        },
-        GapAnswer::Never => GapReply {
-            refusal: 0,
-            found: 0,
-            steps: 0,
-        },
-        GapAnswer::Refused(refusal) => GapReply {
-            refusal: number(refusal),
-            found: 0,
-            steps: 0,
-        },
+impl From<Result<Option<i64>, Refusal>> for GapReply {
+    ghost from_gives = { λ answer r. r ≡ plain_gap answer };
+
+    fn from(answer: Result<Option<i64>, Refusal>) -> GapReply {
+        match answer {
+            Ok(Some(steps)) => GapReply {
+                refusal: 0,
+                found: 1,
+                steps,
+            },
+            Ok(None) => GapReply {
+                refusal: 0,
+                found: 0,
+                steps: 0,
+            },
+            Err(refusal) => GapReply {
+                refusal: number(refusal),
+                found: 0,
+                steps: 0,
+            },
+        }
     }
 }

@@ -24,6 +24,7 @@ use Rattle.generator.specs.Check.{refusal_of}
 use Rattle.refusals.proofs.Conditions.{cond_none, or_else_none, or_false}
 use Rattle.refusals.proofs.Replies.{number_suc, number_nonzero}
 use Rattle.low_places.specs.declared.PlacesAnswer.TheVariants as answer
+use Rattle.std.specs.Prelude.{Ok, Err}
 use Rattle.orbits.specs.Index.{index_reply}
 use Rattle.low_places.specs.Places.{
   range_refusal,
@@ -56,7 +57,7 @@ exponent_zero (suc e) h = absurd (omega (arith, pow_pos e))
 
 -- The promise of the call.
 pub places_refused : (g : Generator) (m y : ℕ) (r : Refusal) → number_of r ≡ places_refusal g m →
-    PlacesPromise g m y (plain_places (answer.Refused r))
+    PlacesPromise g m y (plain_places (Err r))
 places_refused g m y r e =
     record {
       equals = let k = number_suc r in rw (← e, k.1);
@@ -71,7 +72,7 @@ module _ (g : Generator) (m y : ℕ) (z : places_refusal g m ≡ 0) where
   pub every_power : {k last : ℕ} → Recurring (low m (element g)) y (modulus g) k (suc last) → IsPower (suc last)
   every_power r = (low_power g m given r.orbit).0
 
-  pub places_once : {k : ℕ} → Alone (low m (element g)) y (modulus g) k → PlacesPromise g m y (plain_places (answer.Once k))
+  pub places_once : {k : ℕ} → Alone (low m (element g)) y (modulus g) k → PlacesPromise g m y (plain_places (Ok (answer.Once k)))
   places_once {k} a =
       let found = lt-ltb k (modulus g) a.located.below in
       let no_other = le-ltb (modulus g) (modulus g) (le_refl _) in
@@ -93,7 +94,7 @@ module _ (g : Generator) (m y : ℕ) (z : places_refusal g m ≡ 0) where
       }
 
   pub places_every : {k last e : ℕ} → Recurring (low m (element g)) y (modulus g) k (suc last) → e ≡ exponent_of (suc last) →
-      PlacesPromise g m y (plain_places (answer.Every k e))
+      PlacesPromise g m y (plain_places (Ok (answer.Every k e)))
   places_every {k} {last} {e} r h =
       record {
         equals = ap (every_reply k) h ∙ sym defined;
@@ -136,7 +137,7 @@ module _ (g : Generator) (m y : ℕ) (z : places_refusal g m ≡ 0) where
       whole : 2 ^ e ≡ suc last
       whole = ap (λ (n : ℕ). 2 ^ n) exact ∙ sym power.0.power
 
-  pub places_never : Absent (low m (element g)) y → PlacesPromise g m y (plain_places answer.Never)
+  pub places_never : Absent (low m (element g)) y → PlacesPromise g m y (plain_places (Ok answer.Never))
   places_never h =
       record {
         equals = rw (z, absent_is h (modulus g), le-ltb (modulus g) (modulus g) (le_refl _));

@@ -1,11 +1,12 @@
 -- The indices of a generator at which the lowest m places of the element are a given number, when no more of it is legible
 -- (document 02, note 3; SCOPE 3.8). An index agrees if they are.
-use Rattle.std.specs.Prelude.{◌≡◌, cond, ◌||◌, ◌↔◌, ℕ, zero, suc, ◌%◌, ◌^◌, ◌≤◌, eqb, ltb}
+use Rattle.std.specs.Prelude.{◌≡◌, Result, Ok, Err, cond, ◌||◌, ◌↔◌, ℕ, zero, suc, ◌%◌, ◌^◌, ◌≤◌, eqb, ltb}
 use Rattle.sequences.specs.Index.{index_of}
 use Rattle.sequences.specs.Orbit.{return_less_one, IsOrbit, exponent_of}
 use Rattle.sequences.specs.Occurrences.{low, AllIndices}
 use Rattle.generator.specs.declared.Generator.{Generator}
 use Rattle.generator.specs.Recurrence.{modulus, element}
+use Rattle.refusals.specs.declared.Refusal.{Refusal}
 use Rattle.refusals.specs.Refusals.{number_of, or_else}
 use Rattle.generator.specs.Check.{refusal_of}
 use Rattle.orbits.specs.declared.IndexReply.{IndexReply}
@@ -44,11 +45,11 @@ places_reply zero bound k between =
 places_reply (suc n) bound k between = refused_reply (suc n)
 
 -- What an answer says.
-abbrev pub plain_places : PlacesAnswer → PlacesReply
-plain_places (answer.Once k) = once_reply k
-plain_places (answer.Every k e) = every_reply k e
-plain_places answer.Never = never_reply
-plain_places (answer.Refused r) = refused_reply (number_of r)
+abbrev pub plain_places : Result PlacesAnswer Refusal → PlacesReply
+plain_places (Ok (answer.Once k)) = once_reply k
+plain_places (Ok (answer.Every k e)) = every_reply k e
+plain_places (Ok answer.Never) = never_reply
+plain_places (Err r) = refused_reply (number_of r)
 
 -- How an index that was found goes on, by the preperiod and the period of the low places: it recurs exactly from the preperiod
 -- on, and then every period. With an odd multiplier it always recurs; with an even one, where it recurs, at every further

@@ -19,7 +19,6 @@ pub enum PlacesAnswer {
     Once(u64),
     Every { index: u64, exponent: u64 },
     Never,
-    Refused(Refusal),
 }
 
 // found is 0 for never; recurs is 0 for the index only, 1 for it and those every 2^exponent further.
@@ -34,19 +33,18 @@ pub struct PlacesReply {
 }
 
 // The condition of the places call beside those of a generator.
+#[tactic(auto, unfolding(crate::specs::Places::range_refusal))]
 fn range_checked(g: Generator, places: u64) -> Result<(), Refusal>
     ensures { check_number result ≡ range_refusal g places }
 {
-    if places == 0 {
-        return Err(Refusal::PlacesOutOfRange);
-    }
-    if g.width < places {
+    if places == 0 || g.width < places {
         return Err(Refusal::PlacesOutOfRange);
     }
     Ok(())
 }
 
 // The conditions of the places call: the range is looked at only where the generator is accepted.
+#[tactic(auto, unfolding(crate::specs::Places::places_refusal))]
 fn places_checked(g: Generator, places: u64) -> Result<(), Refusal>
     ensures { check_number result ≡ places_refusal g places }
 {
@@ -56,17 +54,17 @@ fn places_checked(g: Generator, places: u64) -> Result<(), Refusal>
 
 // The least index at which the element's lowest places are `value`, and at which others they are: none, or those every
 // 2^exponent further; or never.
-pub fn index_places(g: Generator, places: u64, value: u64) -> PlacesAnswer
+#[tactic(auto, using(crate::proofs::Places::places_accepted, crate::proofs::Places::places_refused, crate::proofs::Places::every_power, crate::proofs::Places::places_once, crate::proofs::Places::places_every, crate::proofs::Places::places_never))]
+pub fn index_places(g: Generator, places: u64, value: u64) -> Result<PlacesAnswer, Refusal>
     ensures { PlacesPromise g places value (plain_places result) }
 {
     places_checked(g, places)?;
-    let found = low_indices_of(g, places, value);
-    match found {
+    Ok(match low_indices_of(g, places, value) {
         Indices::Once(index) => PlacesAnswer::Once(index),
         Indices::Every { index, last } => PlacesAnswer::Every {
             index,
             exponent: exponent_of(last),
         },
         Indices::Never => PlacesAnswer::Never,
-    }
+    })
 }

@@ -7,6 +7,9 @@ use native.Mathlib.Nat.{add-zero}
 use native.Mathlib.Numerals.{add-one}
 use native.Mathlib.Omega.{arith}
 use lib.ListN.{length, take, drop, set, length-set, take-append-drop}
+use Rattle.std.proofs.lemmas.List.{length-take-le}
+use Rattle.std.proofs.Math.ListN.{drop_of_length-le}
+use Rattle.std.proofs.Common.{append-nil}
 use lib.Seq.{take-suc-set, drop-set-lt, drop-drop}
 use Rattle.refusals.specs.declared.Refusal.{Refusal}
 use Rattle.generator.specs.Recurrence.{step, element}
@@ -75,6 +78,22 @@ module _ {run : Run} {p : ℕ} {before buffer : List ℕ} {number k : ℕ} (s : 
       sym (take-append-drop k buffer)
       ∙ ap₂ (λ (x y : List ℕ). x ++ y) s.front s.behind
       ∙ ap (λ (j : ℕ). remade_front run p j before) e
+
+-- and of the first n places of a buffer, what stands behind them is kept
+pub remake_whole : {run : Run} {p n k number : ℕ} {items : List ℕ} (buffer : List ℕ) → n ≤ length buffer →
+    RemadeSoFar run p (take n buffer) items number k → length (take n buffer) ≤ k → k ≤ length (take n buffer) →
+    items ++ drop n buffer ≡ remade_front run p n buffer
+remake_whole {run} {p} {n} {k} {items = items} buffer fits s least most =
+    ap (λ (x : List ℕ). x ++ drop n buffer) (remake_end s k_is ∙ ap (λ (x : List ℕ). shown_from run p n ++ x) nothing ∙ append-nil (shown_from run p n))
+  where
+    size : length (take n buffer) ≡ n
+    size = length-take-le n buffer fits
+
+    k_is : k ≡ n
+    k_is = omega (arith, size, least, most)
+
+    nothing : drop n (take n buffer) ≡ []
+    nothing = drop_of_length-le (take n buffer) (omega (arith, size))
 
 -- The ways out of the call.
 pub remake_refused : (run : Run) (p : ℕ) (buffer : List ℕ) (x : Refusal) → number_of x ≡ run_refusal run →

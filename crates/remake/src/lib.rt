@@ -11,6 +11,7 @@ use runs::{Run, checked};
 pub mod filling;
 
 // Writes what the run shows from this position on to the buffer's front, as much as both have, and gives how many numbers.
+#[tactic(auto, using(crate::proofs::Remakes::remake_refused, crate::proofs::Remakes::remake_done))]
 pub fn remake(run: Run, position: u64, numbers: &mut [u64]) -> Result<u64, Refusal>
     ensures { RemakePromise run position numbers.old numbers.new (plain_value result) }
 {

@@ -12,6 +12,7 @@ pub mod counts;
 pub mod distinct;
 
 // How many different numbers the run shows.
+#[tactic(auto, using(crate::proofs::Varieties::variety_refused))]
 pub fn variety(run: Run) -> Result<u64, Refusal>
     ensures { VarietyPromise run (plain_value result) }
 {

@@ -9,12 +9,12 @@ use runs::Run;
 
 // The run's conditions, then the kind, then the later position. A run has half as many fixes as positions, so that position is off
 // the run exactly if the number of the fix is not below half the count; no sum is formed, which could wrap.
+#[tactic(auto, unfolding(crate::specs::Fix::fix_refusal))]
 pub fn fix_checked(run: Run, fix: u64) -> Result<(), Refusal>
     ensures { check_number result ≡ fix_refusal run fix }
 {
     runs::checked(run)?;
-    let kind = kind_of(run.generator);
-    if let Kind::Prime = kind {
+    if let Kind::Prime = kind_of(run.generator) {
         return Err(Refusal::Inexact);
     }
     if run.count / 2 <= fix {

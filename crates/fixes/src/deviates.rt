@@ -11,10 +11,7 @@ use runs::Run;
 fn places_of(width: u64) -> u64
     ensures { result ≡ places_of width }
 {
-    if width < 53 {
-        return width;
-    }
-    53
+    width.min(53)
 }
 
 // The deviate of an element, less one half. Both casts are of whole numbers up to 2^53, the quotient is by a power of two, and the

@@ -20,12 +20,6 @@ pub struct Fix {
     pub north: f64,
 }
 
-#[derive(Clone, Copy)]
-pub enum FixAnswer {
-    At(Fix),
-    Refused(Refusal),
-}
-
 // The fix is +0.0 twice beside a refusal.
 #[repr(C)]
 #[derive(Clone, Copy)]
@@ -35,6 +29,7 @@ pub struct FixReply {
 }
 
 // The fix with this number: east of position 2 × fix, north of the position behind it.
+#[tactic(auto, using(crate::proofs::Promises::fix_refused, crate::proofs::Promises::fix_given))]
 pub fn fix_at(run: Run, fix: u64) -> Result<Fix, Refusal>
     ensures { FixPromise run fix (plain_fix result) }
 {

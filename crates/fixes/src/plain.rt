@@ -2,20 +2,22 @@
 ghost use Rattle.std.specs.Prelude.{◌≡◌};
 ghost use Rattle.fixes.specs.Fix.{plain_fix};
 
-use crate::{Fix, FixAnswer, FixReply};
-use refusals::number;
+use crate::{Fix, FixReply};
+use refusals::{Refusal, number};
 
-pub fn of_fix(answer: FixAnswer) -> FixReply
-    ensures { result ≡ plain_fix answer }
-{
-    match answer {
-        Ok(fix) => FixReply { refusal: 0, fix },
-        Err(refusal) => FixReply {
-            refusal: number(refusal),
-            fix: Fix {
-                east: 0.0,
-                north: 0.0,
+impl From<Result<Fix, Refusal>> for FixReply {
+    ghost from_gives = { λ answer r. r ≡ plain_fix answer };
+
+    fn from(answer: Result<Fix, Refusal>) -> FixReply {
+        match answer {
+            Ok(fix) => FixReply { refusal: 0, fix },
+            Err(refusal) => FixReply {
+                refusal: number(refusal),
+                fix: Fix {
+                    east: 0.0,
+                    north: 0.0,
+                },
             },
-        },
+        }
     }
 }

@@ -20,7 +20,6 @@ use Rattle.runs.specs.declared.Run.{Run}
 use Rattle.runs.specs.Run.{run_refusal}
 use Rattle.player.specs.declared.Mark.{Mark}
 use Rattle.player.specs.declared.Player.{Player}
-use Rattle.player.specs.declared.Outcome.{Outcome}
 use Rattle.player.specs.PlainPlayer.{Call, Open, Forward, Back, SetMark, Return, Show, off_run, held_refusal}
 use Rattle.player.specs.PlainPlayer.{return_refusal, call_refusal, moved_to, changed, unless_refused, player_after}
 use Rattle.player.specs.PlainPlayer.{number_shown, answer}
@@ -85,8 +84,8 @@ told_reply zero = refl
 told_reply (suc n) = refl
 
 module _ (call : Call) (before : Player) (silent : number_shown call (plain_player before) ≡ 0) where
-  promised : {r : Outcome} → r.refusal ≡ call_refusal call (plain_player before) → r.player ≡ fields_after call before →
-      PlayerPromise call before r.player (told r.refusal)
+  promised : {after : Player} {n : ℕ} → n ≡ call_refusal call (plain_player before) → after ≡ fields_after call before →
+      PlayerPromise call before after (told n)
   promised e w =
       record {
         answers = ap told e ∙ told_reply _ ∙ ap (value_reply (call_refusal call (plain_player before))) (sym silent);
@@ -94,35 +93,16 @@ module _ (call : Call) (before : Player) (silent : number_shown call (plain_play
         plain = ap plain_player w ∙ plain_after call before;
       }
 
-  pub declined_promise : (x : Refusal) {r : Outcome} → number_of x ≡ call_refusal call (plain_player before) →
-      (r.refusal ≡ number_of x) × (r.player ≡ before) → PlayerPromise call before r.player (told r.refusal)
-  declined_promise x e w =
+  pub declined_promise : (x : Refusal) → number_of x ≡ call_refusal call (plain_player before) →
+      PlayerPromise call before before (told (number_of x))
+  declined_promise x e =
       let k = number_suc x in
-      promised (w.0 ∙ e)
-      (w.1 ∙ ap (λ (n : ℕ). unless_refused n before (fields_changed call before)) (sym k.1 ∙ e))
+      promised e (ap (λ (n : ℕ). unless_refused n before (fields_changed call before)) (sym k.1 ∙ e))
 
-  pub accepted_promise : {after : Player} {r : Outcome} → call_refusal call (plain_player before) ≡ 0 →
-      after ≡ fields_changed call before → (r.refusal ≡ 0) × (r.player ≡ after) →
-      PlayerPromise call before r.player (told r.refusal)
-  accepted_promise z e w =
-      promised (w.0 ∙ sym z)
-      (w.1 ∙ e ∙ ap (λ (n : ℕ). unless_refused n before (fields_changed call before)) (sym z))
-
--- a refused one keeps the record
-reply_refusal : (n m v : ℕ) → told n ≡ value_reply m v → n ≡ m
-reply_refusal n zero v e = ap (λ (r : ValueReply). r.refusal) e
-reply_refusal n (suc m) v e = ap (λ (r : ValueReply). r.refusal) e
-
-pub refused_keeps : (call : Call) (before after : Player) (n : ℕ) → PlayerPromise call before after (told n) → T (not (eqb n 0)) → after ≡ before
-refused_keeps call before after n p s =
-    p.fields
-    ∙ ap (λ (m : ℕ). unless_refused m before (fields_changed call before))
-    (sym (reply_refusal n (call_refusal call (plain_player before)) (number_shown call (plain_player before)) p.answers))
-    ∙ other n s
-  where
-    other : (m : ℕ) → T (not (eqb m 0)) → unless_refused m before (fields_changed call before) ≡ before
-    other zero z = absurd z
-    other (suc m) z = refl
+  pub accepted_promise : {after : Player} → call_refusal call (plain_player before) ≡ 0 → after ≡ fields_changed call before →
+      PlayerPromise call before after (told 0)
+  accepted_promise z e =
+      promised (sym z) (e ∙ ap (λ (n : ℕ). unless_refused n before (fields_changed call before)) (sym z))
 
 -- What a record holds that passes the check which comes first.
 pub record Held (player : Player) : Type 0 where

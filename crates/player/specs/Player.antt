@@ -1,6 +1,8 @@
 -- The player's record: which plain player it stands for, every field of it after a call, and the promise of each call.
-use Rattle.std.specs.Prelude.{◌≡◌, [], ◌∷◌, map, ℕ, zero, suc, ◌+◌, ◌-◌, get_or, set}
+use Rattle.std.specs.Prelude.{◌≡◌, Result, Ok, Err, [], ◌∷◌, map, ℕ, zero, suc, ◌+◌, ◌-◌, get_or, set}
 use Rattle.std.proofs.Math.Option.{Option, none, some}
+use Rattle.refusals.specs.declared.Refusal.{Refusal}
+use Rattle.refusals.specs.Refusals.{number_of}
 use Rattle.refusals.specs.declared.ValueReply.{ValueReply}
 use Rattle.player.specs.declared.Mark.{Mark}
 use Rattle.player.specs.declared.Player.{Player}
@@ -51,6 +53,16 @@ pub record PlayerPromise (call : Call) (before after : Player) (reply : ValueRep
   pub answers : reply ≡ answer call (plain_player before)
   pub fields : after ≡ fields_after call before
   pub plain : plain_player after ≡ player_after call (plain_player before)
+
+-- What a call leaves that takes the record by value: what it gives or, beside a refusal, the record as it was; and the number of
+-- its refusal, 0 for none.
+abbrev pub left : Player → Result Player Refusal → Player
+left before (Ok after) = after
+left before (Err r) = before
+
+abbrev pub refusal_told : Result Player Refusal → ℕ
+refusal_told (Ok after) = 0
+refusal_told (Err r) = number_of r
 
 -- The answer of a call that only tells whether it was accepted.
 abbrev pub told : ℕ → ValueReply

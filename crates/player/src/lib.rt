@@ -1,15 +1,16 @@
-// A player: a run, a position on it and four marks. Each call takes the record by value and gives it back, changed or, beside a
-// refusal, as it was. Over the C boundary `noonpasture` has the same calls on a record that is lent.
+// A player: a run, a position on it and four marks. Each call takes the record by value and gives the record after it, or a refusal,
+// beside which the record is as it was. Over the C boundary `noonpasture` has the same calls on a record that is lent.
 #![tactic(auto)]
 
 ghost use Rattle.player.specs.PlainPlayer.{Open, Forward, Back, SetMark, Return, Show};
-ghost use Rattle.player.specs.Player.{PlayerPromise, told};
+ghost use Rattle.player.specs.Player.{PlayerPromise, told, left, refusal_told};
+ghost use Rattle.refusals.specs.Replies.{plain_value};
 
 use checks::held;
 use generator::kinds::value_of;
-use refusals::{Refusal, ValueReply};
+use refusals::Refusal;
 use runs::Run;
-use states::{accepted, declined, moved};
+use states::moved;
 
 pub mod checks;
 pub mod states;
@@ -31,16 +32,9 @@ pub struct Player {
     pub marks: [Mark; 4],
 }
 
-// What a call gives: the refusal's number, 0 for none, and the record after it.
-#[derive(Clone, Copy)]
-pub struct Outcome {
-    pub refusal: u64,
-    pub player: Player,
-}
-
 // Opens a run at position 0, with no mark set.
-pub fn opened(before: Player, run: Run) -> Outcome
-    ensures { PlayerPromise (Open run) before result.player (told result.refusal) }
+pub fn opened(before: Player, run: Run) -> Result<Player, Refusal>
+    ensures { PlayerPromise (Open run) before (left before result) (told (refusal_told result)) }
 {
     let unset = Mark {
         set: 0,
@@ -52,57 +46,45 @@ pub fn opened(before: Player, run: Run) -> Outcome
         position: 0,
         marks,
     };
-    let verdict = runs::checked(run);
-    if let Err(refusal) = verdict {
-        return declined(refusal, before);
-    }
-    accepted(fresh)
+    runs::checked(run)?;
+    Ok(fresh)
 }
 
 // Moves on by this many positions.
-pub fn forwarded(player: Player, steps: u64) -> Outcome
-    ensures { PlayerPromise (Forward steps) player result.player (told result.refusal) }
+pub fn forwarded(player: Player, steps: u64) -> Result<Player, Refusal>
+    ensures { PlayerPromise (Forward steps) player (left player result) (told (refusal_told result)) }
 {
-    let verdict = held(player);
-    if let Err(refusal) = verdict {
-        return declined(refusal, player);
-    }
+    held(player)?;
     if player.run.count - player.position <= steps {
-        return declined(Refusal::PositionOutOfRange, player);
+        return Err(Refusal::PositionOutOfRange);
     }
-    accepted(moved(player, player.position + steps))
+    Ok(moved(player, player.position + steps))
 }
 
 // Moves back by this many positions, whatever the multiplier.
-pub fn moved_back(player: Player, steps: u64) -> Outcome
-    ensures { PlayerPromise (Back steps) player result.player (told result.refusal) }
+pub fn moved_back(player: Player, steps: u64) -> Result<Player, Refusal>
+    ensures { PlayerPromise (Back steps) player (left player result) (told (refusal_told result)) }
 {
-    let verdict = held(player);
-    if let Err(refusal) = verdict {
-        return declined(refusal, player);
-    }
+    held(player)?;
     if player.position < steps {
-        return declined(Refusal::PositionOutOfRange, player);
+        return Err(Refusal::PositionOutOfRange);
     }
-    accepted(moved(player, player.position - steps))
+    Ok(moved(player, player.position - steps))
 }
 
 // Sets a mark to the position held.
-pub fn marked(player: Player, mark: u64) -> Outcome
-    ensures { PlayerPromise (SetMark mark) player result.player (told result.refusal) }
+pub fn marked(player: Player, mark: u64) -> Result<Player, Refusal>
+    ensures { PlayerPromise (SetMark mark) player (left player result) (told (refusal_told result)) }
 {
-    let verdict = held(player);
-    if let Err(refusal) = verdict {
-        return declined(refusal, player);
-    }
+    held(player)?;
     if 3 < mark {
-        return declined(Refusal::BookmarkInvalid, player);
+        return Err(Refusal::BookmarkInvalid);
     }
     let run = player.run;
     let position = player.position;
     let mut marks = player.marks;
     marks[mark as usize] = Mark { set: 1, position };
-    accepted(Player {
+    Ok(Player {
         run,
         position,
         marks,
@@ -110,35 +92,29 @@ pub fn marked(player: Player, mark: u64) -> Outcome
 }
 
 // Returns to a mark that is set. Its position is looked at here, and not before.
-pub fn returned(player: Player, to: u64) -> Outcome
-    ensures { PlayerPromise (Return to) player result.player (told result.refusal) }
+pub fn returned(player: Player, to: u64) -> Result<Player, Refusal>
+    ensures { PlayerPromise (Return to) player (left player result) (told (refusal_told result)) }
 {
-    let verdict = held(player);
-    if let Err(refusal) = verdict {
-        return declined(refusal, player);
-    }
+    held(player)?;
     if 3 < to {
-        return declined(Refusal::BookmarkInvalid, player);
+        return Err(Refusal::BookmarkInvalid);
     }
     let marks = player.marks;
     let target = marks[to as usize];
     if target.set == 0 {
-        return declined(Refusal::BookmarkInvalid, player);
+        return Err(Refusal::BookmarkInvalid);
     }
     if player.run.count <= target.position {
-        return declined(Refusal::PositionOutOfRange, player);
+        return Err(Refusal::PositionOutOfRange);
     }
-    accepted(moved(player, target.position))
+    Ok(moved(player, target.position))
 }
 
-// The number at the position held, in plain numbers.
-pub fn shown(player: Player) -> ValueReply
-    ensures { PlayerPromise Show player player result }
+// The number at the position held.
+pub fn shown(player: Player) -> Result<u64, Refusal>
+    ensures { PlayerPromise Show player player (plain_value result) }
 {
-    let verdict = held(player);
-    if let Err(refusal) = verdict {
-        return of_value(Err(refusal));
-    }
+    held(player)?;
     let index = player.run.first + player.position;
-    of_value(Ok(value_of(player.run.generator, index)))
+    Ok(value_of(player.run.generator, index))
 }

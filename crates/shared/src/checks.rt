@@ -4,7 +4,7 @@ ghost use Rattle.refusals.specs.Refusals.{check_number};
 ghost use Rattle.shared.specs.Shared.{rule_refusal, shared_refusal};
 
 use generator::Generator;
-use refusals::{Refusal, or_else};
+use refusals::Refusal;
 use runs::{Run, checked};
 
 // Both generators have one rule, with an odd multiplier.
@@ -27,12 +27,11 @@ pub fn rule_checked(g: Generator, h: Generator) -> Result<(), Refusal>
 }
 
 // The first run's conditions, the second's, then those on both.
+#[tactic(auto, unfolding(crate::specs::Shared::shared_refusal))]
 pub fn shared_checked(first: Run, second: Run) -> Result<(), Refusal>
     ensures { check_number result ≡ shared_refusal first second }
 {
-    let one = checked(first);
-    let other = checked(second);
-    let rule = rule_checked(first.generator, second.generator);
-    let later = or_else(other, rule);
-    or_else(one, later)
+    checked(first)?;
+    checked(second)?;
+    rule_checked(first.generator, second.generator)
 }

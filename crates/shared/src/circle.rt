@@ -17,20 +17,7 @@ pub fn place(index: u64, last: u64) -> u64
 fn places(count: u64, last: u64) -> u64
     ensures { result ≡ min count (suc last) }
 {
-    if count <= last {
-        return count;
-    }
-    last + 1
-}
-
-// The smaller of two numbers.
-fn smaller(u: u64, v: u64) -> u64
-    ensures { result ≡ min u v }
-{
-    if u < v {
-        return u;
-    }
-    v
+    count.min(last.saturating_add(1))
 }
 
 // How many of that many places from d on lie past the end.
@@ -38,11 +25,7 @@ fn past_end(count: u64, d: u64, last: u64) -> u64
     requires { d ≤ last }
     ensures { result ≡ d + count - suc last }
 {
-    let room = last - d;
-    if count <= room {
-        return 0;
-    }
-    count - room - 1
+    count.saturating_sub(last - d).saturating_sub(1)
 }
 
 // How many places two arcs share, one of so many places from 0 on, the other from d on: those that the second has behind d,
@@ -55,8 +38,8 @@ pub fn common_places(first: u64, second: u64, d: u64, last: u64) -> u64
     let other = places(second, last);
     let past = past_end(other, d, last);
     if one <= d {
-        return smaller(one, past);
+        return one.min(past);
     }
-    let behind = smaller(one - d, other);
+    let behind = (one - d).min(other);
     past + behind
 }

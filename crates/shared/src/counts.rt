@@ -14,8 +14,7 @@ pub fn shared_of(first: Run, second: Run) -> u64
     requires { shared_refusal first second ≡ 0 }
     ensures { result ≡ shared_of first second }
 {
-    let found = indices_of(first.generator, second.generator.seed);
-    let Indices::Every { index, last } = found else {
+    let Indices::Every { index, last } = indices_of(first.generator, second.generator.seed) else {
         return 0;
     };
     let start = place(first.first, last);

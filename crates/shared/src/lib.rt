@@ -14,6 +14,7 @@ pub mod circle;
 pub mod counts;
 
 // How many different numbers occur in both runs.
+#[tactic(auto, using(crate::proofs::Shares::shared_refused, crate::proofs::Shares::shared_given))]
 pub fn shared(first: Run, second: Run) -> Result<u64, Refusal>
     ensures { SharedPromise first second (plain_value result) }
 {

@@ -10,6 +10,5 @@ use Rattle.player.proofs.marked.Goals as goal
 pub returns : goal.returns
 returns c =
     accepted_promise (SetMark _) _ refl
-    (mark_taken (held_passed c.args.player (number_accepted c.held-verdict.ensures c.in_default.is)) c.args.mark (omega arith))
+    (mark_taken (held_passed c.args.player (number_accepted c.held.ensures c.in_ok-held.was)) c.args.mark (omega arith))
     refl
-    c.accepted.ensures

@@ -11,12 +11,10 @@ use Rattle.player.proofs.returned.Goals as goal
 pub returns-then-player-target : goal.returns-then-player-target
 returns-then-player-target c =
     declined_promise (Return _) _ refl refusal.PositionOutOfRange
-    (return_off (held_passed c.args.player (number_accepted c.held-verdict.ensures c.in_default.is)) c.args.to (omega arith) refl c.if-target-eq0.false (omega arith))
-    c.declined-then-player-target.ensures
+    (return_off (held_passed c.args.player (number_accepted c.held.ensures c.in_ok-held.was)) c.args.to (omega arith) refl c.if-target-eq0.false (omega arith))
 
 pub returns : goal.returns
 returns c =
     accepted_promise (Return _) _ refl
-    (return_on (held_passed c.args.player (number_accepted c.held-verdict.ensures c.in_default.is)) c.args.to (omega arith) refl c.if-target-eq0.false (omega arith))
+    (return_on (held_passed c.args.player (number_accepted c.held.ensures c.in_ok-held.was)) c.args.to (omega arith) refl c.if-target-eq0.false (omega arith))
     c.moved.ensures
-    c.accepted.ensures

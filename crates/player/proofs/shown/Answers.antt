@@ -9,14 +9,14 @@ use Rattle.player.proofs.shown.Goals as goal
 
 pub overflow_add-index : goal.overflow_add-index
 overflow_add-index c =
-    let held = (held_passed c.args.player (number_accepted c.held-verdict.ensures c.in_default.is)) in
+    let held = (held_passed c.args.player (number_accepted c.held.ensures c.in_ok-held.was)) in
     record { fits = omega (arith, held.on, (valid_run _ held.run).end) }
 
 pub value_of-requires : goal.value_of-requires
-value_of-requires c = (valid_run _ (held_passed c.args.player (number_accepted c.held-verdict.ensures c.in_default.is)).run).generator
+value_of-requires c = (valid_run _ (held_passed c.args.player (number_accepted c.held.ensures c.in_ok-held.was)).run).generator
 
 pub returns : goal.returns
 unfolding shows
 returns c =
     shown_promise _
-    (c.of_value-2.ensures ∙ value_given _ (held_passed c.args.player (number_accepted c.held-verdict.ensures c.in_default.is)).passed c.value_of.ensures)
+    (value_given _ (held_passed c.args.player (number_accepted c.held.ensures c.in_ok-held.was)).passed c.value_of.ensures)

@@ -144,7 +144,7 @@ digits_fewer {v} {w} l = go (length (digits_of w)) (digits_nonempty w) (digits_b
     go zero p h = absurd (omega arith)
     go (suc k) p h = digits_length v k (omega arith)
 
--- the number of digits, one or four at a time
+-- the number of digits
 pub length_one : (v : ℕ) → v < 10 → length (digits_of v) ≡ 1
 length_one v h = ap length (digits_one v h)
 
@@ -156,18 +156,6 @@ pub length_exact : (k v : ℕ) → 10 ^ k ≤ v → v < 10 ^ suc k → length (d
 length_exact zero v low high = length_one v (omega arith)
 length_exact (suc k) v low high =
     omega (arith, length_more v (omega arith), length_exact k (v / 10) (omega arith) (omega arith))
-
-pub length_four : (v : ℕ) → 9999 < v → length (digits_of v) ≡ 4 + length (digits_of (v / 10000))
-length_four v h =
-    let e : v / 10 / 10 / 10 / 10 ≡ v / 10000 = omega arith in
-    omega (
-      arith,
-      length_more v (omega arith),
-      length_more (v / 10) (omega arith),
-      length_more (v / 10 / 10) (omega arith),
-      length_more (v / 10 / 10 / 10) (omega arith),
-      ap (λ (u : ℕ). length (digits_of u)) e,
-    )
 
 -- Reading digits.
 

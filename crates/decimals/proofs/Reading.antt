@@ -4,13 +4,13 @@
 use mathlib.Core.Path.{◌≡◌, refl, sym, ap, ◌∙◌, subst}
 use mathlib.Core.List.{List, [], ◌∷◌, ◌++◌, Memᴰ}
 use mathlib.Core.Logic.{by_cases}
-use Prim.Native.Nat.{ℕ, zero, suc, ◌+◌, ◌*◌, ◌^◌, ◌≤◌, ◌<◌, suc-le-suc}
+use Prim.Native.Nat.{ℕ, zero, suc, ◌+◌, ◌*◌, ◌^◌, ◌-◌, ◌≤◌, ◌<◌, suc-le-suc}
 use native.Mathlib.Nat.{add-zero}
 use native.Mathlib.Omega.{arith}
 use native.Mathlib.Decide.{dec_lt}
 use native.Mathlib.Numerals.{add-one}
-use lib.ListN.{length, get_or, drop, length-drop}
-use lib.Seq.{drop-cons, get_or-drop}
+use lib.ListN.{length, get_or, take, drop, length-drop}
+use lib.Seq.{take_all, drop-cons, drop-drop, get_or-drop}
 use Rattle.decimals.specs.Digits.{digits_of}
 use Rattle.decimals.specs.Field.{FieldFound, NoField}
 use Rattle.decimals.proofs.Digits.{
@@ -57,10 +57,30 @@ no_digit s at delimiter other =
 
 -- The digits and the delimiter behind them.
 
+-- the bytes from `from` on, as a slice
+abbrev pub from_on : List ℕ → ℕ → List ℕ
+from_on s from = take (length s - from) (drop from s)
+
+from_on_all : (s : List ℕ) (from : ℕ) → from_on s from ≡ drop from s
+from_on_all s from = take_all (length s - from) (drop from s) (omega (arith, length-drop from s))
+
+pub field_behind : {bytes s : List ℕ} {delimiter v n next : ℕ} (from : ℕ) → from ≤ length s → next ≡ from + n →
+    FieldFound bytes (from_on s from) delimiter v n → FieldFound bytes s delimiter v next
+field_behind {bytes} {s} {delimiter} {v} {n} from h e found =
+    record {
+      small = found.small;
+      reads = rw (e, ← drop-drop n from s, ← from_on_all s from) found.reads;
+      within = omega (arith, found.within, ap length (from_on_all s from), length-drop from s);
+    }
+
 -- up to i, the digits of v have been read of the field's bytes
 pub record ReadUpTo (bytes s : List ℕ) (v i : ℕ) : Type 0 where
   pub read : bytes ≡ digits_of v ++ drop i s
   pub small : v < 2 ^ 64
+
+pub read_first : (s : List ℕ) (from first : ℕ) → first < 2 ^ 64 → ReadUpTo (digits_of first ++ drop from s) (from_on s from) first 0
+read_first s from first small =
+    record { read = ap (λ (rest : List ℕ). digits_of first ++ rest) (sym (from_on_all s from)); small = small }
 
 module _ {bytes s : List ℕ} {v i : ℕ} (so_far : ReadUpTo bytes s v i) where
   -- the delimiter stands at i

@@ -1,15 +1,17 @@
 -- What each step of writing a field shows. The writer of the digits goes from the last one back and holds: with the digits
 -- of what is left put in front of i, the buffer is as it is to be. A digit stored in front of i keeps that up.
-use mathlib.Core.Path.{◌≡◌, sym, ap, ◌∙◌}
+use mathlib.Core.Path.{◌≡◌, refl, sym, ap, ◌∙◌}
 use mathlib.Core.List.{List, [], ◌∷◌, ◌++◌, append_assoc}
+use mathlib.Core.Logic.{by_cases}
 use Prim.Native.Nat.{ℕ, suc, ◌+◌, ◌/◌, ◌%◌, ◌-◌, ◌≤◌, ◌<◌}
 use native.Mathlib.Omega.{arith}
+use native.Mathlib.Decide.{dec_lt}
 use native.Mathlib.Numerals.{add-one}
 use lib.ListN.{length, take, drop, set, length-append, length-set}
 use lib.Seq.{take-set-le, set_split, drop_at, length-take-le}
 use Rattle.decimals.specs.Digits.{digits_of}
 use Rattle.decimals.specs.Field.{Written}
-use Rattle.decimals.proofs.Digits.{digits_one, digits_last}
+use Rattle.decimals.proofs.Digits.{digits_nonempty, digits_one, digits_last}
 
 stored : (buf : List ℕ) (i b : ℕ) → i < length buf → drop i (set buf i b) ≡ b ∷ drop (i + 1) buf
 stored buf i b h =
@@ -21,9 +23,22 @@ pub record Lacks (whole buf : List ℕ) (at i rest : ℕ) : Type 0 where
   pub ends : i ≡ at + length (digits_of rest)
   pub within : i ≤ length buf
 
+-- and where i has come down to at, none does
+pub record LacksOrNot (whole buf : List ℕ) (at i rest : ℕ) : Type 0 where
+  pub some : at < i → Lacks whole buf at i rest
+  pub none : i ≤ at → buf ≡ whole
+
+pub all_lack : (before : List ℕ) (at end v : ℕ) → end ≡ at + length (digits_of v) → end ≤ length before →
+    LacksOrNot (take at before ++ (digits_of v ++ drop end before)) before at end v
+all_lack before at end v ends within =
+    record {
+      some = λ l. record { joined = refl; ends = ends; within = within };
+      none = λ l. absurd (omega (arith, digits_nonempty v));
+    }
+
 module _ {whole buf : List ℕ} {at i rest : ℕ} (lacks : Lacks whole buf at i rest) where
-  pub digit_written : 9 < rest → Lacks whole (set buf (i - 1) (48 + rest % 10)) at (i - 1) (rest / 10)
-  digit_written h =
+  more_written : 9 < rest → Lacks whole (set buf (i - 1) (48 + rest % 10)) at (i - 1) (rest / 10)
+  more_written h =
       let last = digits_last rest h in
       let n = simp length-append at (ap length last) in
       let next : i - 1 + 1 ≡ i = omega arith in
@@ -38,12 +53,22 @@ module _ {whole buf : List ℕ} {at i rest : ℕ} (lacks : Lacks whole buf at i 
         within = simp length-set (omega arith);
       }
 
-  pub last_written : rest ≤ 9 → set buf at (48 + rest) ≡ whole
+  last_written : rest < 10 → set buf (i - 1) (48 + rest % 10) ≡ whole
   last_written h =
-      let one = digits_one rest (omega arith) in
+      let one = digits_one rest h in
       let n = ap length one in
+      let here : i - 1 ≡ at = omega arith in
       let next : i ≡ suc at = omega arith in
-      rw (← lacks.joined, one, next) (set_split buf at (48 + rest) (omega arith))
+      let digit : rest % 10 ≡ rest = omega arith in
+      rw (here, digit, ← lacks.joined, one, next) (set_split buf at (48 + rest) (omega arith))
+
+  pub digit_written : LacksOrNot whole (set buf (i - 1) (48 + rest % 10)) at (i - 1) (rest / 10)
+  digit_written =
+      by_cases (dec_lt rest 10)
+      (λ one. let n = ap length (digits_one rest one) in
+      record { some = λ l. absurd (omega arith); none = λ l. last_written one })
+      (λ more. let next = more_written (omega arith) in
+      record { some = λ l. next; none = λ l. absurd (omega (arith, digits_nonempty (rest / 10))) })
 
 -- the delimiter is stored first, and then the digits in front of it
 pub delimiter_written :

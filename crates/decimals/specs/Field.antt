@@ -1,9 +1,8 @@
 -- What the contracts of reading and writing a field cite. A field is the digits of a number, with a byte behind them, its
 -- delimiter.
-use Rattle.std.specs.Prelude.{◌≡◌, List, ◌∷◌, ◌++◌, ℕ, ◌+◌, ◌≤◌, ◌<◌, ◌^◌, length, take, drop}
+use Rattle.std.specs.Prelude.{◌≡◌, List, ◌∷◌, ◌++◌, ℕ, ◌+◌, ◌≤◌, ◌<◌, ◌^◌, length, take, drop, Option, Some, None}
 use Rattle.decimals.specs.Digits.{digits_of}
 use Rattle.decimals.specs.declared.field.Field.{Field}
-use Rattle.decimals.specs.declared.field.Field.TheVariants.{Number, Unreadable}
 
 -- the bytes begin with the digits of v and the delimiter, and go on with s from next on
 pub record FieldFound (bytes s : List ℕ) (delimiter v next : ℕ) : Type 0 where
@@ -16,9 +15,9 @@ pub record NoField (bytes : List ℕ) (delimiter : ℕ) : Type 0 where
   pub none : (v : ℕ) (rest : List ℕ) → v < 2 ^ 64 → bytes ≡ digits_of v ++ (delimiter ∷ rest) → ⊥
 
 -- what an answer says of the field at the front of the bytes, with which s ends
-abbrev pub FieldOf : List ℕ → List ℕ → ℕ → Field → Type 0
-FieldOf bytes s delimiter (Number v next) = FieldFound bytes s delimiter v next
-FieldOf bytes s delimiter Unreadable = NoField bytes delimiter
+abbrev pub FieldOf : List ℕ → List ℕ → ℕ → Option Field → Type 0
+FieldOf bytes s delimiter (Some field) = FieldFound bytes s delimiter field.number field.next
+FieldOf bytes s delimiter None = NoField bytes delimiter
 
 -- a buffer, before and after the digits of v and the delimiter were written to it, from at up to next
 pub record Written (before after : List ℕ) (at v delimiter next : ℕ) : Type 0 where

@@ -1,111 +1,75 @@
 // A field: the decimal digits of an unsigned 64-bit number without leading zeros, and the byte
 // behind them, its delimiter: a comma (44), or 10 at the end of a line.
-ghost use Rattle.std.specs.Prelude.{◌≡◌, ◌++◌, ◌+◌, ◌*◌, ◌≤◌, ◌<◌, ◌^◌, length, take, drop};
+ghost use Rattle.std.specs.Prelude.{◌≡◌, ◌++◌, ◌+◌, ◌-◌, ◌*◌, ◌≤◌, ◌<◌, ◌^◌, SomeIff, length, take, drop};
 ghost use Rattle.decimals.specs.Digits.{digits_of};
 ghost use Rattle.decimals.specs.Field.{FieldOf, Written};
 
-// What reading a field finds: its number and the index behind its delimiter.
+// A field that was read: its number and the index behind its delimiter.
 #[derive(Clone, Copy)]
-pub enum Field {
-    Number(u64, usize),
-    Unreadable,
+pub struct Field {
+    pub number: u64,
+    pub next: usize,
 }
 
-// Reads the field at `at`, with its delimiter.
-pub fn read_field(s: &[u8], at: usize, delimiter: u8) -> Field
+// Reads the field at `at`, with its delimiter. The enum that it answers is Option.
+pub fn read_field(s: &[u8], at: usize, delimiter: u8) -> Option<Field>
     requires { delimiter < 48 }
     ensures { FieldOf (drop at s.now) s.now delimiter result }
 {
-    if s.len() <= at {
-        return Field::Unreadable;
-    }
-    let first = digit(s[at]);
-    if first > 9 {
-        return Field::Unreadable;
-    }
+    let first = digit(*s.get(at)?)?;
     read_on(s, at + 1, delimiter, first)
 }
 
 // Reads on at `from`, behind the digits of `first`.
-fn read_on(s: &[u8], from: usize, delimiter: u8, first: u64) -> Field
-    requires { delimiter < 48 }
+fn read_on(s: &[u8], from: usize, delimiter: u8, first: u64) -> Option<Field>
+    requires from_in_bounds { from ≤ length s.now }
+    requires delimiter_below_digits { delimiter < 48 }
     ensures { FieldOf (digits_of first ++ drop from s.now) s.now delimiter result }
 {
-    let mut v = first;
-    let mut i = from;
-    while i < s.len() {
-        let b = s[i];
-        let d = digit(b);
-        if d > 9 {
+    let mut number = first;
+    for (i, &b) in s[from..].iter().enumerate() {
+        let Some(d) = digit(b) else {
             if b == delimiter {
-                return Field::Number(v, i + 1);
+                return Some(Field {
+                    number,
+                    next: from + i + 1,
+                });
             }
-            return Field::Unreadable;
-        }
-        let longer = appended(v, d);
-        if longer == 0 {
-            return Field::Unreadable;
-        }
-        v = longer;
-        i += 1;
+            return None;
+        };
+        number = appended(number, d)?;
     }
-    Field::Unreadable
+    None
 }
 
-// The digit that a byte stands for, or 10 or more where it stands for none.
-fn digit(b: u8) -> u64
-    ensures { (result < 10 → b ≡ 48 + result) × (9 < result → 48 ≤ b → 57 < b) }
+// The digit that a byte stands for.
+fn digit(b: u8) -> Option<u64>
+    ensures { SomeIff result ((48 ≤ b) × (b < 58)) (b - 48) }
 {
-    (b as u64 + 208) % 256
+    if b.is_ascii_digit() {
+        Some(u64::from(b - b'0'))
+    } else {
+        None
+    }
 }
 
-// The number with the digits of `v` and behind them `d`, or 0 where none has them: `v` would be a
-// leading zero, or the number is above 2^64 - 1.
-fn appended(v: u64, d: u64) -> u64
+// The number with the digits of `v` and behind them `d`: none has them where `v` would be a leading
+// zero, or the number is above 2^64 - 1.
+fn appended(v: u64, d: u64) -> Option<u64>
     requires { d < 10 }
-    ensures { (0 < result → (0 < v) × (result ≡ v * 10 + d)) × (result ≡ 0 → 0 < v → 2 ^ 64 ≤ v * 10 + d) }
+    ensures { SomeIff result ((0 < v) × (v * 10 + d < 2 ^ 64)) (v * 10 + d) }
 {
     if v == 0 {
-        return 0;
+        return None;
     }
-    if v > 1844674407370955161 {
-        return 0;
-    }
-    let tens = v * 10;
-    if d > 18446744073709551615 - tens {
-        return 0;
-    }
-    tens + d
+    v.checked_mul(10)?.checked_add(d)
 }
 
-// How many digits the number has, counted four at a time.
+// How many digits the number has.
 pub fn field_length(v: u64) -> usize
     ensures { (result ≡ length (digits_of v)) × (result ≤ 20) }
 {
-    let mut n = 0;
-    let mut rest = v;
-    while rest > 9999 {
-        rest /= 10000;
-        n += 4;
-    }
-    n + short_length(rest)
-}
-
-// How many digits a number below 10000 has.
-fn short_length(v: u64) -> usize
-    requires { v < 10000 }
-    ensures { result ≡ length (digits_of v) }
-{
-    if v < 10 {
-        return 1;
-    }
-    if v < 100 {
-        return 2;
-    }
-    if v < 1000 {
-        return 3;
-    }
-    4
+    v.checked_ilog10().unwrap_or(0) as usize + 1
 }
 
 // Writes the field of `v` at `at`, with its delimiter, and answers the index behind it.
@@ -125,12 +89,9 @@ fn write_digits(buf: &mut [u8], at: usize, end: usize, v: u64)
     requires end_in_bounds { end ≤ length buf.old }
     ensures { buf.new ≡ take at buf.old ++ (digits_of v ++ drop end buf.old) }
 {
-    let mut i = end;
     let mut rest = v;
-    while rest > 9 {
-        i -= 1;
-        buf[i] = 48 + (rest % 10) as u8;
+    for i in (at..end).rev() {
+        buf[i] = b'0' + (rest % 10) as u8;
         rest /= 10;
     }
-    buf[at] = 48 + rest as u8;
 }

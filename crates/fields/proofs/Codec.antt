@@ -4,7 +4,7 @@ use mathlib.Core.Path.{◌≡◌, refl, sym, ap, ap₂, ◌∙◌, subst}
 use mathlib.Core.Bool.{false}
 use mathlib.Core.Logic.{by_cases}
 use mathlib.Core.List.{List, [], ◌∷◌, ◌++◌, append_assoc, append-nil}
-use Prim.Native.Nat.{ℕ, zero, suc, ◌+◌, ◌*◌, ◌-◌, ◌^◌, ◌≤◌, ◌<◌, suc-le-suc}
+use Prim.Native.Nat.{ℕ, suc, ◌+◌, ◌*◌, ◌-◌, ◌^◌, ◌≤◌, ◌<◌, suc-le-suc}
 use native.Mathlib.Decide.{ℕ_discrete}
 use native.Mathlib.Numerals.{add-one}
 use native.Mathlib.Omega.{arith}
@@ -12,16 +12,14 @@ use lib.Dec.{eqb}
 use lib.ListN.{length, get_or, take, drop, set, length-append, length-drop, length-set, drop_of_length-le, take-append-drop}
 use lib.Seq.{take_all, take-suc-set, take_at, drop_at, drop-drop, drop-cons, length-take-le}
 use borrow.Author.Tests.{eq-eqb, ne_eqb}
+use Rattle.std.specs.List.{sum_by}
+use Rattle.std.proofs.lemmas.List.Sums.{sum_by-cons}
 use Rattle.decimals.specs.Digits.{digits_of}
 use Rattle.decimals.specs.Field.{FieldFound, NoField, Written}
 use Rattle.fields.specs.Line.{delimiter_before, fields_line, numbers_from, is_line}
 use Rattle.fields.specs.Codec.{LineRead, FrontWritten}
 use Rattle.decimals.proofs.Digits.{digits_length}
 use Rattle.fields.proofs.Numbers.{line_field, line_no_field, line_none, line_some}
-
-pub delimiter_comma : (n : ℕ) → (n ≡ 0 → ⊥) → 44 ≡ delimiter_before n
-delimiter_comma zero d = absurd (d refl)
-delimiter_comma (suc n) d = refl
 
 -- Reading.
 
@@ -44,49 +42,49 @@ read_start bytes before =
       guess = refl;
     }
 
-module _ {bytes before numbers : List ℕ} {at k delimiter : ℕ} (s : ReadSoFar bytes before numbers at k) (l : k < length numbers)
-    (m : delimiter ≡ delimiter_before (length numbers - k - 1)) where
+module _ {bytes before numbers : List ℕ} {at k delimiter : ℕ} (s : ReadSoFar bytes before numbers at k) (l : k < length before)
+    (m : delimiter ≡ delimiter_before (length before - k - 1)) where
   -- the fields left
-  others : length before - k ≡ suc (length numbers - k - 1)
-  others = omega (arith, s.size)
+  others : length before - k ≡ suc (length before - k - 1)
+  others = omega arith
 
   -- one more field, or none where one should be
   pub read_next : {v next : ℕ} → FieldFound (drop at bytes) bytes delimiter v next → ReadSoFar bytes before (set numbers k v) next (k + 1)
   read_next {v} {next} f =
-      let step = line_field (length numbers - k - 1) v (drop next bytes) f.small (rw m at f.reads) in
+      let step = line_field (length before - k - 1) v (drop next bytes) f.small (rw m at f.reads) in
       record {
-        some = omega (arith, s.size);
+        some = omega arith;
         within = f.within;
         size = length-set numbers k v ∙ s.size;
         left =
-            let e : length numbers - k - 1 ≡ length before - (k + 1) = omega (arith, s.size) in
+            let e : length before - k - 1 ≡ length before - (k + 1) = omega arith in
             s.left ∙ ap (λ (j : ℕ). is_line j (drop at bytes)) others ∙ step.0 ∙ ap (λ (j : ℕ). is_line j (drop next bytes)) e;
         guess =
             s.guess
             ∙ ap (λ (ws : List ℕ). take k numbers ++ ws) step.1
             ∙ sym (append_assoc (take k numbers) (v ∷ []) (numbers_from 0 (drop next bytes)))
             ∙ ap (λ (ws : List ℕ). ws ++ numbers_from 0 (drop next bytes))
-            (sym (ap (λ (j : ℕ). take j (set numbers k v)) (add-one k) ∙ take-suc-set numbers k v l));
+            (sym (ap (λ (j : ℕ). take j (set numbers k v)) (add-one k) ∙ take-suc-set numbers k v (omega (arith, s.size))));
       }
 
-  pub read_none : NoField (drop at bytes) delimiter → LineRead bytes before numbers false
+  pub read_none : {after : List ℕ} → NoField (drop at bytes) delimiter → LineRead bytes before after false
   read_none none =
       record {
         is_line_lem =
             sym
             (s.left ∙ ap (λ (j : ℕ). is_line j (drop at bytes)) others
-            ∙ line_no_field (length numbers - k - 1) (subst (NoField (drop at bytes)) m none));
+            ∙ line_no_field (length before - k - 1) (subst (NoField (drop at bytes)) m none));
         numbers = λ e. absurd (let z : ◌≡◌ {A = ℕ} 0 1 = cc in omega arith);
       }
 
 -- all fields are read: the bytes end there, or not
-pub read_end : {bytes before numbers : List ℕ} {at k : ℕ} → ReadSoFar bytes before numbers at k → length numbers ≤ k →
+pub read_end : {bytes before numbers : List ℕ} {at k : ℕ} → ReadSoFar bytes before numbers at k → length before ≤ k →
     LineRead bytes before numbers (eqb at (length bytes))
 read_end {bytes} {before} {numbers} {at} {k} s l = by_cases (ℕ_discrete at (length bytes)) whole longer
   where
     left : is_line (length before) bytes ≡ is_line 0 (drop at bytes)
     left =
-        let none : length before - k ≡ 0 = omega (arith, s.size) in
+        let none : length before - k ≡ 0 = omega arith in
         s.left ∙ ap (λ (j : ℕ). is_line j (drop at bytes)) none
 
     whole : at ≡ length bytes → LineRead bytes before numbers (eqb at (length bytes))
@@ -98,7 +96,7 @@ read_end {bytes} {before} {numbers} {at} {k} s l = by_cases (ℕ_discrete at (le
           numbers = λ t.
               sym
               (s.guess
-              ∙ ap₂ (λ (ws : List ℕ) (bs : List ℕ). ws ++ numbers_from 0 bs) (take_all k numbers l) end
+              ∙ ap₂ (λ (ws : List ℕ) (bs : List ℕ). ws ++ numbers_from 0 bs) (take_all k numbers (omega (arith, s.size))) end
               ∙ unfold numbers_from in append-nil numbers);
         })
 
@@ -119,24 +117,11 @@ left_fields vs k l =
     ap fields_line (drop-cons vs k 0 l) ∙ rw (add-one, ← e)
 
 -- The length.
-pub record CountedSoFar (vs : List ℕ) (n k : ℕ) : Type 0 where
-  pub all : n + length (fields_line (drop k vs)) ≡ length (fields_line vs)
-  pub small : n ≤ 21 * k
-
-pub count_start : (vs : List ℕ) → CountedSoFar vs 0 0
-count_start vs = record { all = omega arith; small = omega arith }
-
-pub count_next : {vs : List ℕ} {n k m : ℕ} → CountedSoFar vs n k → k < length vs →
-    (m ≡ length (digits_of (get_or vs k 0))) × (m ≤ 20) → CountedSoFar vs (n + (m + 1)) (k + 1)
-count_next {vs} {n} {k} {m} s l e =
-    record {
-      all = omega (arith, s.all, simp length-append at (ap length (left_fields vs k l)));
-      small = omega (arith, s.small);
-    }
-
-pub count_end : {vs : List ℕ} {n k : ℕ} → CountedSoFar vs n k → length vs ≤ k → n ≡ length (fields_line vs)
+pub line_sum : (vs : List ℕ) → sum_by (λ v. length (digits_of v) + 1) vs ≡ length (fields_line vs)
 unfolding fields_line
-count_end {vs} {n} {k} s l = omega (arith, s.all, ap (λ (ws : List ℕ). length (fields_line ws)) (drop_of_length-le vs l))
+line_sum [] = refl
+line_sum (v ∷ vs) =
+    sum_by-cons (λ u. length (digits_of u) + 1) v vs ∙ simp length-append (omega (arith, line_sum vs))
 
 -- a field has at most 21 bytes
 pub line_bound : (vs : List ℕ) → ((i : ℕ) → i < length vs → get_or vs i 0 < 2 ^ 64) → length (fields_line vs) ≤ 21 * length vs

@@ -1,12 +1,11 @@
--- `line::length` meets its contract: the loop's invariant is `CountedSoFar`.
-use Rattle.fields.proofs.Codec.{count_start, count_next, count_end}
+-- `line::length` meets its contract: the sum over the fields is the length of their line.
+use Rattle.std.proofs.Common.{rules, ◌≡◌, ◌+◌, length, ◌∙◌}
+use Rattle.std.specs.List.{sum_by}
+use Rattle.decimals.specs.Digits.{digits_of}
+use Rattle.fields.proofs.Codec.{line_sum}
 use Rattle.fields.proofs.line.length.Goals as goal
 
-pub loop-k-init : goal.loop-k-init
-loop-k-init c = count_start _
-
-pub loop-k-preserved : goal.loop-k-preserved
-loop-k-preserved c = count_next c.loop-k.invariant c.loop-k-test.true c.field_length.ensures
-
 pub returns : goal.returns
-returns c = count_end c.loop-k.invariant c.loop-k-test.false
+returns c =
+    let e : c.sum.result ≡ sum_by (λ v. length (digits_of v) + 1) c.args.numbers.now = search rules in
+    e ∙ line_sum c.args.numbers.now

@@ -12,17 +12,17 @@ loop-k-init c = read_start _ _
 
 pub read_field-requires : goal.read_field-requires
 read_field-requires c =
-    delimiter_under (length c.loop-k.numbers - c.loop-k.k - 1) c.delimiter_before-delimiter.ensures
+    delimiter_under (length c.args.numbers.now - c.loop-k.k - 1) c.delimiter_before.ensures
 
 pub returns-in_default : goal.returns-in_default
 returns-in_default c =
-    read_none c.loop-k.invariant c.loop-k-test.true c.delimiter_before-delimiter.ensures
+    read_none c.loop-k.invariant c.loop-k-test.true c.delimiter_before.ensures
     (subst (FieldOf _ _ _) c.in_default.is c.read_field.ensures)
 
 pub loop-k-preserved : goal.loop-k-preserved
 loop-k-preserved c =
-    read_next c.loop-k.invariant c.loop-k-test.true c.delimiter_before-delimiter.ensures
-    (subst (FieldOf _ _ _) c.in-Number.is c.read_field.ensures)
+    read_next c.loop-k.invariant c.loop-k-test.true c.delimiter_before.ensures
+    (subst (FieldOf _ _ _) c.in-Some.is c.read_field.ensures)
 
 pub returns : goal.returns
 returns c = read_end c.loop-k.invariant c.loop-k-test.false

@@ -29,10 +29,6 @@ slot_within vs {slots} l = scaled (hash_from 0 vs / 2 ^ 32) (omega (arith, hash_
     scaled u h = omega (arith, mul-le-mul_right slots (let g : u ≤ 4294967295 = omega arith in g))
 
 -- What the code computes of the hash.
-pub slot_fits : {h : ℕ} (slots : ℕ) → h < 2 ^ 64 → slots ≤ 65536 → h / 4294967296 * slots < 2 ^ 64
-slot_fits {h} slots l s =
-    omega (arith, mul-le-mul_right slots (let g : h / 4294967296 ≤ 4294967295 = omega arith in g))
-
 pub slot_is : (vs : List ℕ) {h : ℕ} (slots : ℕ) → hash_from 0 vs ≡ h → h / 4294967296 * slots / 4294967296 ≡ slot_of vs slots
 unfolding slot_of
 slot_is vs slots e = rw e

@@ -1,22 +1,13 @@
-// The chains: a part is compared with those of its slot, and becomes the newest of them.
-ghost use Rattle.std.specs.Prelude.{◌≡◌, ◌+◌, ◌*◌, ◌<◌, ◌≤◌, length, take, drop};
-ghost use Rattle.fields.specs.Line.{same_bytes};
+// The chains: a part is compared with those of its slot, and becomes the newest of them. There is no heap, so links are
+// indices into tables of a fixed size.
+ghost use Rattle.std.specs.Prelude.{◌≡◌, ◌+◌, ◌-◌, ◌*◌, ◌<◌, ◌≤◌, SomeIff, length, take, drop};
 ghost use Rattle.chains.specs.Chains.{stands_among, Falling, Tables, Seen};
 
-// Whether the n bytes at `start` are those at `at`.
-fn same_bytes(bytes: &[u8], start: usize, at: usize, n: usize) -> bool
-    requires start_le_at { start ≤ at }
-    requires n_in_bounds { at + n ≤ length bytes.now }
-    ensures { result ≡ same_bytes (take n (drop start bytes.now)) (take n (drop at bytes.now)) }
+// Where the part of a link starts: a link of a table is 0 for none, or the offset and 1 more.
+fn start_of(link: u16) -> Option<usize>
+    ensures { SomeIff result (0 < link) (link - 1) }
 {
-    let mut i = 0;
-    while i < n {
-        if bytes[start + i] != bytes[at + i] {
-            return false;
-        }
-        i += 1;
-    }
-    true
+    usize::from(link).checked_sub(1)
 }
 
 // Whether the n bytes at `at` stand at a link of the chain.
@@ -27,13 +18,12 @@ fn stand_among(bytes: &[u8], at: usize, n: usize, first: u16, next: &[u16]) -> b
     requires falling { Falling next.now }
     ensures { result ≡ stands_among bytes.now next.now (take n (drop at bytes.now)) first }
 {
-    let mut link = first as usize;
-    while link != 0 {
-        let start = link - 1;
-        if same_bytes(bytes, start, at, n) {
+    let mut link = first;
+    while let Some(start) = start_of(link) {
+        if bytes[start..start + n] == bytes[at..at + n] {
             return true;
         }
-        link = next[start / 12] as usize;
+        link = next[start / 12];
     }
     false
 }

@@ -2,9 +2,9 @@
 use Rattle.chains.proofs.Walking.{Walk}
 use Rattle.chains.proofs.chains.stand_among.Given as goal
 
-abbrev pub invariant-loop-link : goal.invariant-loop-link
-invariant-loop-link l =
+abbrev pub invariant-loop-start : goal.invariant-loop-start
+invariant-loop-start l =
     Walk l.bytes l.next l.at l.n l.first l.link
 
-abbrev pub decreases-loop-link : goal.decreases-loop-link
-decreases-loop-link l = l.link
+abbrev pub decreases-loop-start : goal.decreases-loop-start
+decreases-loop-start l = l.link

@@ -73,6 +73,10 @@ same_lower {n} k {u} {v} h e =
 pub mod_lower : (n k u : ℕ) → k ≤ n → u % 2 ^ n % 2 ^ k ≡ u % 2 ^ k
 mod_lower n k u h = (same_lower k h (same_mod (2 ^ n) u)).same
 
+-- what `a.wrapping_sub(b)` gives: b added to it wraps back to a
+pub sub_wraps : (a b : ℕ) → a < 2 ^ 64 → b < 2 ^ 64 → ((a + (2 ^ 64 - b)) % 2 ^ 64 + b) % 2 ^ 64 ≡ a
+sub_wraps a b h k = omega arith
+
 -- an inverse of a modulo 2 ^ k
 pub record Inverse (a k : ℕ) : Type 0 where
   pub inverse : ℕ

@@ -1,11 +1,7 @@
 -- The wrapping product over 32-bit halves is the product modulo 2 ^ 64. With a = a' * H + a'' and
 -- b = b' * H + b'', H = 2 ^ 32, the product a' * b' counts H * H = 2 ^ 64 and goes, and the two cross terms count H.
-use Rattle.std.proofs.Common.{◌≡◌, ℕ, ◌+◌, ◌*◌, ◌/◌, ◌%◌, ◌^◌, ◌<◌, refl, ◌∙◌, ap₂, lt_of_le_of_lt, le_of_lt, mul-le-mul_left, mul-lt-mul_of_pos_right, div-add-mod', arith, lit<}
+use Rattle.std.proofs.Common.{◌≡◌, ℕ, ◌+◌, ◌*◌, ◌/◌, ◌%◌, ◌^◌, refl, ◌∙◌, ap₂, div-add-mod', arith}
 use Rattle.words.proofs.Congruence.{Congruent, from_multiples, same_refl, same_regroup, same_trans, same_mod, same_result, same_add, same_scale}
-
--- the product of two halves fits 64 bits
-pub halves_fit : {a b : ℕ} → a < 2 ^ 32 → b < 2 ^ 32 → a * b < 2 ^ 64
-halves_fit {a} {b} ha hb = lt_of_le_of_lt (mul-le-mul_left a (le_of_lt hb)) (mul-lt-mul_of_pos_right ha (lit< tt))
 
 -- the three products that count
 split_product :

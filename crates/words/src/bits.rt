@@ -14,10 +14,7 @@ pub fn ones(n: u64) -> u64
     requires { n ≤ 64 }
     ensures { result + 1 ≡ 2 ^ n }
 {
-    if n == 0 {
-        return 0;
-    }
-    u64::MAX >> (64 - n)
+    if n == 0 { 0 } else { u64::MAX >> (64 - n) }
 }
 
 // Whether x is 2^n or more.

@@ -3,13 +3,12 @@ ghost use Rattle.std.specs.Prelude.{◌≡◌, ◌*◌, ◌%◌, ◌^◌};
 ghost use Rattle.words.specs.Newton.{Doubles};
 
 use crate::wrapping_mul;
-use std::num::wrapping_sub_u64;
 
 // One step of Newton's iteration x (2 - a x): the places in which x inverts a double.
 fn newton(a: u64, x: u64) -> u64
     ensures { Doubles a x result }
 {
-    wrapping_mul(x, wrapping_sub_u64(2, wrapping_mul(a, x)))
+    wrapping_mul(x, 2u64.wrapping_sub(wrapping_mul(a, x)))
 }
 
 // The inverse of an odd number. An odd number inverts itself in two places, so five steps give 64.

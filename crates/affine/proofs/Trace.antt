@@ -22,6 +22,7 @@ use Rattle.affine.specs.Trace.{
   Jumps,
   Row,
   Traced,
+  Onward,
   Continues,
   Rounds,
 }
@@ -96,6 +97,10 @@ rounded_add {j} {p = p} {q = q} f none = subst (λ (n : ℕ). Rounded n p q) (sy
 rounded_add {j} {p = p} {r = r} f (next {k} g h) =
     subst (λ (n : ℕ). Rounded n p r) (sym (add-suc j k)) (next (rounded_add f g) h)
 
+-- some rounds, and k more
+pub onward_add : {k : ℕ} {p q r : Progress} → Onward p q → Rounded k q r → Onward p r
+onward_add {k} t h = record { rounds = t.rounds + k; rounded = rounded_add t.rounded h }
+
 -- the index does not grow
 pub rounded_within : {k : ℕ} {p q : Progress} → Rounded k p q → q.left ≤ p.left
 rounded_within none = omega arith
@@ -120,17 +125,6 @@ pub round_at_zero :
 round_at_zero {p} e h =
     let even : p.left % 2 ≡ 0 = omega (arith, e) in
     (h.left ∙ omega (arith, e), λ x. (rw (eq-eqb _ _ even) at h.done).composes x ∙ ap (λ (y : ℕ). y % 2 ^ 64) (omega arith))
-
--- what `round` returns
-pub one_round :
-    (p : Progress) {bit stride done : Affine} {left : ℕ} →
-    bit ≡ selected_of p →
-    Composes p.done bit done →
-    Composes p.stride p.stride stride →
-    left ≡ p.left / 2 →
-    OneRound p (record { stride = stride; done = done; left = left })
-one_round p {done = done} e f g h =
-    record { stride = g; done = subst (λ (b : Affine). Composes p.done b done) e f; left = h }
 
 -- what `finish` returns: with no index left what is done, otherwise what it returns for the state n rounds later
 pub performed_now : (p : Progress) → p.left ≡ 0 → Performed p p.done

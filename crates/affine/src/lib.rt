@@ -5,7 +5,6 @@ ghost use Rattle.std.specs.Prelude.{◌≡◌, ◌%◌, ◌^◌};
 ghost use Rattle.affine.specs.Affine.{Composes, apply};
 ghost use Rattle.affine.specs.Trace.{Jumps, OneRound, Onward, Performed, Rounded, progress_of, selected_of};
 
-use std::num::wrapping_add_u64;
 use words::wrapping_mul;
 
 // The map "times factor, plus offset", modulo 2^64.
@@ -15,11 +14,17 @@ pub struct Affine {
     pub offset: u64,
 }
 
+// The map of no step.
+const IDENTITY: Affine = Affine {
+    factor: 1,
+    offset: 0,
+};
+
 // The map's value at x.
 pub fn value_at(f: Affine, x: u64) -> u64
     ensures { result ≡ apply f x % 2 ^ 64 }
 {
-    wrapping_add_u64(wrapping_mul(f.factor, x), f.offset)
+    wrapping_mul(f.factor, x).wrapping_add(f.offset)
 }
 
 // The map `first`, followed by the map `second`.
@@ -45,13 +50,7 @@ pub struct Progress {
 fn selected(p: Progress) -> Affine
     ensures { result ≡ selected_of p }
 {
-    if p.left % 2 == 0 {
-        return Affine {
-            factor: 1,
-            offset: 0,
-        };
-    }
-    p.stride
+    if p.left % 2 == 0 { IDENTITY } else { p.stride }
 }
 
 // One round: does what the lowest bit asks for, doubles the stride and goes on with half the index.
@@ -75,37 +74,24 @@ fn four_rounds(p: Progress) -> Progress
     round(round(round(round(p))))
 }
 
-// Up to 24 rounds, four at a time, as long as some index is left.
-fn rounds_on(p: Progress) -> Progress
+// Up to 24 rounds, four at a time, as long as some index is left. It compiles to the six tests written out.
+fn rounds_on(mut p: Progress) -> Progress
     ensures { Onward p result }
 {
-    let p4 = four_rounds(p);
-    if p4.left == 0 {
-        return p4;
+    for _ in 0..6 {
+        p = four_rounds(p);
+        if p.left == 0 {
+            break;
+        }
     }
-    let p8 = four_rounds(p4);
-    if p8.left == 0 {
-        return p8;
-    }
-    let p12 = four_rounds(p8);
-    if p12.left == 0 {
-        return p12;
-    }
-    let p16 = four_rounds(p12);
-    if p16.left == 0 {
-        return p16;
-    }
-    let p20 = four_rounds(p16);
-    if p20.left == 0 {
-        return p20;
-    }
-    four_rounds(p20)
+    p
 }
 
 // The map "times factor, plus offset", followed by as many steps of "times a, plus c" as are left, down to index 0: up to 32
 // rounds a call, with a return after each four once nothing is left. Rounds at index 0 leave the map done as it is. A call
 // hands its map back through memory, so few are made, and what comes back has a name of its own, or every return would go
-// that way; the numbers go to it in registers, where a struct would go through memory too.
+// that way; the numbers go to it in registers, where a struct would go through memory too. The first two fours stand outside the
+// loop of `rounds_on`: one loop for the whole call was slower (docs/PERFORMANCE.md, "The rounds of the jump").
 fn finish(a: u64, c: u64, factor: u64, offset: u64, left: u64) -> Affine
     ensures { Performed (progress_of a c factor offset left) result }
 {
@@ -141,10 +127,7 @@ pub fn jump(a: u64, c: u64, i: u64) -> Affine
     ensures { Jumps a c i result }
 {
     if i == 0 {
-        return Affine {
-            factor: 1,
-            offset: 0,
-        };
+        return IDENTITY;
     }
     finish(a, c, 1, 0, i)
 }

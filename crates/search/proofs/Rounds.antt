@@ -3,7 +3,7 @@
 -- a power of two modulo 2 ^ 64, and the counters stay below the limit. One law stands for each way through a body.
 --   loop_start, loop_stays, loop_doubles, loop_stops, loop_done   the search for a number
 --   turn_start, turn_stays, turn_doubles, turn_done               the search for the first element, where nothing is away
-use Rattle.std.proofs.Common.{◌≡◌, ℕ, suc, ◌+◌, ◌-◌, ◌*◌, ◌%◌, ◌^◌, ◌<◌, ◌≤◌, Bool, true, false, cond, eqb, refl, ◌∙◌, le_antisymm, add-one, arith, eqb-true}
+use Rattle.std.proofs.Common.{◌≡◌, ℕ, suc, ◌+◌, ◌*◌, ◌%◌, ◌^◌, ◌<◌, ◌≤◌, Bool, true, false, cond, eqb, refl, ◌∙◌, le_antisymm, add-one, arith, eqb-true}
 use borrow.Author.Tests.{eqb-false}
 use Rattle.words.specs.Alpha.{Alpha}
 use Rattle.words.proofs.Places.{alpha_power}
@@ -23,9 +23,9 @@ use Rattle.sequences.proofs.Searches.{
 use Rattle.search.specs.Settling.{Settling, Doubling}
 
 -- The search for a number.
-pub record Loop (limit away₀ drift₀ factor₀ away drift factor differs k period left m : ℕ) : Type 0 where
+pub record Loop (limit away₀ drift₀ factor₀ away drift factor differs k period m : ℕ) : Type 0 where
   pub exponent : ℕ
-  pub within : m + left ≡ limit
+  pub within : m ≤ limit
   pub exponent_within : exponent ≤ m
   pub alpha : Alpha away differs
   pub power : period ≡ 2 ^ exponent % 2 ^ 64
@@ -33,7 +33,7 @@ pub record Loop (limit away₀ drift₀ factor₀ away drift factor differs k pe
       Searching n x y limit away drift factor k exponent m
 
 pub loop_start : {away differs : ℕ} (limit drift factor : ℕ) → Alpha away differs →
-    Loop limit away drift factor away drift factor differs 0 1 limit 0
+    Loop limit away drift factor away drift factor differs 0 1 0
 loop_start limit drift factor β =
     record {
       exponent = 0;
@@ -49,43 +49,38 @@ power_twice : (e : ℕ) {period twice : ℕ} → period ≡ 2 ^ e % 2 ^ 64 → t
     twice ≡ 2 ^ suc e % 2 ^ 64
 power_twice e h q = let s = same_result (2 ^ e) h in q ∙ (same_regroup (same_add s s) refl (omega arith)).same
 
-module _ {limit away₀ drift₀ factor₀ away drift factor differs k period left m : ℕ}
-    (loop : Loop limit away₀ drift₀ factor₀ away drift factor differs k period left m) where
+module _ {limit away₀ drift₀ factor₀ away drift factor differs k period m : ℕ}
+    (loop : Loop limit away₀ drift₀ factor₀ away drift factor differs k period m) where
   -- what was settled, with the exponent read off the period
-  settling : {places e : ℕ} → m ≡ places → Alpha period e →
+  settling : {e : ℕ} → Alpha period e →
       ((n : ℕ) (x : ℕ → ℕ) (y : ℕ) → Begins n x y limit away₀ drift₀ factor₀ →
       Settles x y limit m k loop.exponent) →
-      Settling away₀ drift₀ factor₀ limit (record { places = places; index = k; exponent = e })
-  settling {e = e} q α s =
+      Settling away₀ drift₀ factor₀ limit (record { places = m; index = k; exponent = e })
+  settling {e = e} α s =
       record {
         settles =
             λ n x y b.
             let read : e ≡ loop.exponent =
             alpha_power loop.exponent (omega (arith, loop.exponent_within, loop.within, b.within, b.word))
             loop.power α in
-            rw (← q, read) (s n x y b);
+            rw read (s n x y b);
       }
 
-  pub loop_done : {e : ℕ} → left ≤ 0 → Alpha period e →
+  pub loop_done : {e : ℕ} → limit ≤ m → Alpha period e →
       Settling away₀ drift₀ factor₀ limit (record { places = limit; index = k; exponent = e })
-  loop_done none α =
-      let all : m ≡ limit = omega (arith, loop.within) in
-      settling all α (λ n x y b. search_done b (loop.law n x y b) (omega (arith, all)))
+  loop_done l α =
+      let q : m ≡ limit = le_antisymm loop.within l in
+      rw q at (settling α (λ n x y b. search_done b (loop.law n x y b) l))
 
-  module _ {returning : ℕ} (some : 0 < left) (α : Alpha drift returning) where
-    l : m < limit
-    l = omega (arith, loop.within)
-
+  module _ {returning : ℕ} (l : m < limit) (α : Alpha drift returning) where
     -- the period stays, and the number differs
     pub loop_stops : {e : ℕ} → (returning ≡ m → ⊥) → differs ≡ m → Alpha period e →
-        Settling away₀ drift₀ factor₀ limit (record { places = limit - left; index = k; exponent = e })
-    loop_stops r d β =
-        settling (omega (arith, loop.within)) β
-        (λ n x y b. search_stops b (loop.law n x y b) l α loop.alpha r d)
+        Settling away₀ drift₀ factor₀ limit (record { places = m; index = k; exponent = e })
+    loop_stops r d β = settling β (λ n x y b. search_stops b (loop.law n x y b) l α loop.alpha r d)
 
     -- it stays, and the number agrees
     pub loop_stays : (returning ≡ m → ⊥) → (differs ≡ m → ⊥) →
-        Loop limit away₀ drift₀ factor₀ away drift factor differs k period (left - 1) (m + 1)
+        Loop limit away₀ drift₀ factor₀ away drift factor differs k period (m + 1)
     loop_stays r d =
         record {
           exponent = loop.exponent;
@@ -97,14 +92,19 @@ module _ {limit away₀ drift₀ factor₀ away drift factor differs k period le
         }
 
     -- it doubles, and what goes on is chosen by whether the number differs
-    module _ {product moved beyond ahead square next wide twice : ℕ} (r : returning ≡ m)
-        (ep : product ≡ factor * away % 2 ^ 64) (em : moved ≡ (product + drift) % 2 ^ 64) (β : Alpha moved beyond)
-        (ea : ahead ≡ (k + period) % 2 ^ 64) (es : square ≡ factor * factor % 2 ^ 64)
-        (en : next ≡ (factor + 1) % 2 ^ 64) (ew : wide ≡ next * drift % 2 ^ 64)
+    module _ {product beyond square wide twice : ℕ} (r : returning ≡ m)
+        (ep : product ≡ factor * away % 2 ^ 64) (β : Alpha ((product + drift) % 2 ^ 64) beyond)
+        (es : square ≡ factor * factor % 2 ^ 64) (ew : wide ≡ (factor + 1) % 2 ^ 64 * drift % 2 ^ 64)
         (et : twice ≡ (period + period) % 2 ^ 64) where
+      abbrev moved : ℕ
+      moved = (product + drift) % 2 ^ 64
+
+      abbrev ahead : ℕ
+      ahead = (k + period) % 2 ^ 64
+
       either : (test : Bool) → eqb differs m ≡ test →
           Loop limit away₀ drift₀ factor₀ (cond test moved away) wide square (cond test beyond differs) (cond test ahead k)
-          twice (left - 1) (m + 1)
+          twice (m + 1)
       either true q =
           record {
             exponent = loop.exponent + 1;
@@ -115,8 +115,8 @@ module _ {limit away₀ drift₀ factor₀ away drift factor differs k period le
             law =
                 λ n x y b.
                 let s = loop.law n x y b in
-                rw (search_index b s l (same_result (2 ^ loop.exponent) loop.power) ea)
-                (search_ahead b s l α loop.alpha en ew es r ep em (eqb-true _ _ q));
+                rw (search_index b s l (same_result (2 ^ loop.exponent) loop.power) refl)
+                (search_ahead b s l α loop.alpha refl ew es r ep refl (eqb-true _ _ q));
           }
       either false q =
           record {
@@ -127,12 +127,12 @@ module _ {limit away₀ drift₀ factor₀ away drift factor differs k period le
             power = rw add-one (power_twice loop.exponent loop.power et);
             law =
                 λ n x y b.
-                search_doubles b (loop.law n x y b) l α loop.alpha en ew es r (eqb-false _ _ q);
+                search_doubles b (loop.law n x y b) l α loop.alpha refl ew es r (eqb-false _ _ q);
           }
 
       pub loop_doubles : {differs' k' away' : ℕ} → differs' ≡ cond (eqb differs m) beyond differs →
           k' ≡ cond (eqb differs m) ahead k → away' ≡ cond (eqb differs m) moved away →
-          Loop limit away₀ drift₀ factor₀ away' wide square differs' k' twice (left - 1) (m + 1)
+          Loop limit away₀ drift₀ factor₀ away' wide square differs' k' twice (m + 1)
       loop_doubles ed ek ew' = rw (ed, ek, ew') (either (eqb differs m) refl)
 
 -- The search for the first element.
@@ -168,11 +168,11 @@ module _ {limit drift₀ factor₀ drift factor e m : ℕ} (turn : Turn limit dr
           law = λ n x b. search_stays b (turn.law n x b) l α alpha_zero r (inside b);
         }
 
-    pub turn_doubles : {square next wide : ℕ} → square ≡ factor * factor % 2 ^ 64 → next ≡ (factor + 1) % 2 ^ 64 →
-        wide ≡ next * drift % 2 ^ 64 → returning ≡ m → Turn limit drift₀ factor₀ wide square (e + 1) (m + 1)
-    turn_doubles es en ew r =
+    pub turn_doubles : {square wide : ℕ} → square ≡ factor * factor % 2 ^ 64 →
+        wide ≡ (factor + 1) % 2 ^ 64 * drift % 2 ^ 64 → returning ≡ m → Turn limit drift₀ factor₀ wide square (e + 1) (m + 1)
+    turn_doubles es ew r =
         record {
           within = omega arith;
           exponent_within = omega arith;
-          law = λ n x b. search_doubles b (turn.law n x b) l α alpha_zero en ew es r (inside b);
+          law = λ n x b. search_doubles b (turn.law n x b) l α alpha_zero refl ew es r (inside b);
         }

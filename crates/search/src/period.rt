@@ -1,7 +1,6 @@
 // The period of a sequence in its low bit places: the search for the first element itself, of which only the period is left.
 ghost use Rattle.search.specs.Settling.{Doubling};
 
-use std::num::wrapping_add_u64;
 use words::{alpha, wrapping_mul};
 
 // The exponent of the period in `limit` places. With m places settled it is e; a period multiplies what an element is above the
@@ -11,14 +10,11 @@ pub fn doublings(mut drift: u64, mut factor: u64, limit: u64) -> u64
     ensures { Doubling drift factor limit result }
 {
     let mut e: u64 = 0;
-    let mut m: u64 = 0;
-    while m < limit {
+    for place in 0..limit {
         let returning = alpha(drift);
-        let place = m;
-        m += 1;
         if returning == place {
             let square = wrapping_mul(factor, factor);
-            drift = wrapping_mul(wrapping_add_u64(factor, 1), drift);
+            drift = wrapping_mul(factor.wrapping_add(1), drift);
             factor = square;
             e += 1;
         }

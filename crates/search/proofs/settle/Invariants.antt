@@ -2,10 +2,6 @@
 use Rattle.search.proofs.Rounds.{Loop}
 use Rattle.search.proofs.settle.Given as goal
 
-abbrev pub invariant-loop-left : goal.invariant-loop-left
-invariant-loop-left l =
-    Loop l.limit l.initial.away l.initial.drift l.initial.factor l.away l.drift l.factor l.differs l.k l.period l.left l.m
-
-abbrev pub decreases-loop-left : goal.decreases-loop-left
-decreases-loop-left l =
-    l.left
+abbrev pub invariant-loop-place : goal.invariant-loop-place
+invariant-loop-place l =
+    Loop l.limit l.initial.away l.initial.drift l.initial.factor l.away l.drift l.factor l.differs l.k l.period l.place

@@ -2,7 +2,7 @@
 -- line of the run of the numbers guessed; so the definition has its meaning, and each way out of the call is the definition.
 use Rattle.std.specs.Prelude.{Result, Ok, Err}
 use mathlib.Core.Path.{◌≡◌, refl, sym, ap, ◌∙◌, subst}
-use mathlib.Core.Bool.{Bool, true, false}
+use mathlib.Core.Bool.{Bool, true, false, true≢false}
 use mathlib.Core.List.{List, [], ◌∷◌}
 use Prim.Native.Nat.{ℕ, zero, suc, ◌^◌}
 use native.Mathlib.Omega.{arith}
@@ -12,7 +12,6 @@ use Rattle.refusals.specs.declared.Refusal.TheVariants.{MalformedLine}
 use Rattle.refusals.specs.Refusals.{number_of}
 use Rattle.refusals.proofs.Replies.{number_suc}
 use Rattle.fields.specs.Line.{AllBelow, fields_line, numbers_from, is_line}
-use Rattle.fields.specs.Codec.{LineRead}
 use Rattle.fields.proofs.Numbers.{numbers_line, line_injective, is_line_lem, line_is, no_test}
 use Rattle.runs.specs.declared.Run.{Run}
 use Rattle.runs.specs.Run.{run_refusal}
@@ -123,25 +122,19 @@ pub read_as : {bytes : List ℕ} {a : (Result Run Refusal)} (b : (Result Run Ref
 read_as {bytes} b e r = subst (λ (c : (Result Run Refusal)). ReadPromise bytes (plain_run c)) e r
 
 -- The ways out of the call.
-module _ {bytes before numbers : List ℕ} {answer : Bool} (l : LineRead bytes before numbers answer) (room : length before ≡ 6) where
-  is : is_line 6 bytes ≡ answer
-  is = ap (λ (n : ℕ). is_line n bytes) (sym room) ∙ sym l.is_line_lem
+pub read_malformed : {bytes : List ℕ} → is_line 6 bytes ≡ false → ReadPromise bytes (plain_run (Err MalformedLine))
+read_malformed {bytes} f = read_promise (sym (read_others bytes f))
 
-  pub read_malformed : answer ≡ false → ReadPromise bytes (plain_run (Err MalformedLine))
-  read_malformed f = read_promise (sym (read_others bytes (is ∙ f)))
+module _ (bytes : List ℕ) {run : Run} (l : (is_line 6 bytes ≡ true) × (run ≡ run_in bytes)) where
+  read : read_of bytes ≡ run_reply (run_refusal run) run
+  read = read_lines bytes l.0 ∙ ap (λ (r : Run). run_reply (run_refusal r) r) (sym l.1)
 
-  module _ {run : Run} (t : answer ≡ true) (e : run ≡ run_of numbers) where
-    read : read_of bytes ≡ run_reply (run_refusal run) run
-    read =
-        read_lines bytes (is ∙ t)
-        ∙ ap (λ (r : Run). run_reply (run_refusal r) r) (ap run_of (sym (l.numbers t)) ∙ sym e)
+  pub read_refused : (x : Refusal) → number_of x ≡ run_refusal run → ReadPromise bytes (plain_run (Err x))
+  read_refused x r = read_promise (sym (read ∙ let j = number_suc x in rw (← r, j.1)))
 
-    pub read_refused : (x : Refusal) → number_of x ≡ run_refusal run → ReadPromise bytes (plain_run (Err x))
-    read_refused x r = read_promise (sym (read ∙ let j = number_suc x in rw (← r, j.1)))
+  pub read_accepted : run_refusal run ≡ 0 → ReadPromise bytes (plain_run (Ok run))
+  read_accepted z = read_promise (sym (read ∙ rw z))
 
-    pub read_accepted : run_refusal run ≡ 0 → ReadPromise bytes (plain_run (Ok run))
-    read_accepted r = read_promise (sym (read ∙ rw r))
-
-  -- of a line that is known to be accepted the numbers read are those of its run
-  pub read_known : {run : Run} → (read_of bytes).refusal ≡ 0 → run ≡ run_of numbers → run ≡ run_in bytes
-  read_known z e = e ∙ ap run_of (l.numbers (sym is ∙ accepted_is_line bytes z))
+-- and bytes that are known to be an accepted line are one
+pub known_line : (bytes : List ℕ) → (read_of bytes).refusal ≡ 0 → is_line 6 bytes ≡ false → ⊥
+known_line bytes z f = true≢false (sym (accepted_is_line bytes z) ∙ f)

@@ -8,19 +8,13 @@ ghost use Rattle.lines.specs.ReadLine.{ReadPromise, plain_run};
 ghost use Rattle.lines.specs.WriteLine.{WritePromise};
 
 use fields::line;
-use numbers::{numbers_of, run_of};
+use numbers::{line_run, numbers_of};
 use refusals::Refusal;
 use runs::{Run, checked};
 
 pub mod accepted;
 pub mod numbers;
 pub mod plain;
-
-#[derive(Clone, Copy)]
-pub enum RunAnswer {
-    Accepted(Run),
-    Refused(Refusal),
-}
 
 // The same in plain numbers: the refusal's number, 0 for none, and the run, all zeros beside a refusal.
 #[repr(C)]
@@ -34,16 +28,15 @@ pub struct RunReply {
 pub fn read_line(bytes: &[u8]) -> Result<Run, Refusal>
     ensures { ReadPromise bytes.now (plain_run result) }
 {
-    let mut numbers = [0u64; 6];
-    if !line::read(bytes, &mut numbers) {
+    let Some(run) = line_run(bytes) else {
         return Err(Refusal::MalformedLine);
-    }
-    let run = run_of(numbers);
+    };
     checked(run)?;
     Ok(run)
 }
 
 // Writes a run's line from the buffer's first byte on, and gives the number of bytes.
+#[tactic(auto, using(crate::proofs::Written::write_refused, crate::proofs::Written::write_short, crate::proofs::Written::write_done), unfolding(crate::specs::WriteLine::write_refusal))]
 pub fn write_line(run: Run, buffer: &mut [u8]) -> Result<u64, Refusal>
     ensures { WritePromise run buffer.old buffer.new (plain_value result) }
 {
@@ -52,6 +45,5 @@ pub fn write_line(run: Run, buffer: &mut [u8]) -> Result<u64, Refusal>
     if buffer.len() < line::length(&numbers) {
         return Err(Refusal::BufferTooShort);
     }
-    let n = line::write(buffer, &numbers);
-    Ok(n as u64)
+    Ok(line::write(buffer, &numbers) as u64)
 }

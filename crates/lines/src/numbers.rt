@@ -1,7 +1,10 @@
-// A run as the six numbers of its line.
-ghost use Rattle.std.specs.Prelude.{◌≡◌};
+// A run as the six numbers of its line. `From` both ways would have to stand in `runs`, which knows no line.
+ghost use Rattle.std.specs.Prelude.{◌≡◌, MatchOption, true, false};
+ghost use Rattle.fields.specs.Line.{is_line};
 ghost use Rattle.lines.specs.Line.{numbers_of, run_of};
+ghost use Rattle.lines.specs.ReadLine.{run_in};
 
+use fields::line;
 use generator::Generator;
 use runs::Run;
 
@@ -35,4 +38,11 @@ pub fn numbers_of(run: Run) -> [u64; 6]
         run.first,
         run.count,
     ]
+}
+
+// The run of a line, accepted or not, if the bytes are a line.
+pub fn line_run(bytes: &[u8]) -> Option<Run>
+    ensures { MatchOption result (is_line 6 bytes.now ≡ false) (λ run. (is_line 6 bytes.now ≡ true) × (run ≡ run_in bytes.now)) }
+{
+    line::read_array(bytes).map(run_of)
 }

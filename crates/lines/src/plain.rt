@@ -2,9 +2,9 @@
 ghost use Rattle.std.specs.Prelude.{◌≡◌};
 ghost use Rattle.lines.specs.ReadLine.{plain_run};
 
-use crate::{RunAnswer, RunReply};
+use crate::RunReply;
 use generator::Generator;
-use refusals::number;
+use refusals::{Refusal, number};
 use runs::Run;
 
 // The run of zeros.
@@ -19,14 +19,16 @@ const NO_RUN: Run = Run {
     count: 0,
 };
 
-pub fn of_run(answer: RunAnswer) -> RunReply
-    ensures { result ≡ plain_run answer }
-{
-    match answer {
-        Ok(run) => RunReply { refusal: 0, run },
-        Err(refusal) => RunReply {
-            refusal: number(refusal),
-            run: NO_RUN,
-        },
+impl From<Result<Run, Refusal>> for RunReply {
+    ghost from_gives = { λ answer r. r ≡ plain_run answer };
+
+    fn from(answer: Result<Run, Refusal>) -> RunReply {
+        match answer {
+            Ok(run) => RunReply { refusal: 0, run },
+            Err(refusal) => RunReply {
+                refusal: number(refusal),
+                run: NO_RUN,
+            },
+        }
     }
 }

@@ -9,12 +9,12 @@ use runs::Run;
 
 // The run's conditions, then the kind, the lane and the number of lanes. Of 0 lanes there is no lane, so that the second of these
 // finds them too.
+#[tactic(auto, unfolding(crate::specs::Lane::lane_refusal))]
 pub fn lane_checked(run: Run, lanes: u64, lane: u64) -> Result<(), Refusal>
     ensures { check_number result ≡ lane_refusal run lanes lane }
 {
     runs::checked(run)?;
-    let kind = kind_of(run.generator);
-    if let Kind::Prime = kind {
+    if let Kind::Prime = kind_of(run.generator) {
         return Err(Refusal::LanesOutOfRange);
     }
     if lanes <= lane {

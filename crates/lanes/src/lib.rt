@@ -8,7 +8,7 @@ ghost use Rattle.lanes.specs.Lane.{LanePromise};
 ghost use Rattle.lanes.specs.WriteLane.{WriteLanePromise};
 
 use checks::lane_checked;
-use lines::{RunAnswer, write_line};
+use lines::write_line;
 use refusals::Refusal;
 use runs::Run;
 use split::lane_of;
@@ -17,6 +17,7 @@ pub mod checks;
 pub mod split;
 
 // The lane with this number, from 0 on, of so many.
+#[tactic(auto, using(crate::proofs::Promises::lane_refused, crate::proofs::Promises::lane_given))]
 pub fn lane(run: Run, lanes: u64, lane: u64) -> Result<Run, Refusal>
     ensures { LanePromise run lanes lane (plain_run result) }
 {
@@ -25,10 +26,10 @@ pub fn lane(run: Run, lanes: u64, lane: u64) -> Result<Run, Refusal>
 }
 
 // Writes the lane's line from the buffer's first byte on, and gives the number of bytes.
+#[tactic(auto, using(crate::proofs::Promises::write_lane_refused, crate::proofs::Promises::write_lane_written))]
 pub fn write_lane(run: Run, lanes: u64, lane: u64, buffer: &mut [u8]) -> Result<u64, Refusal>
     ensures { WriteLanePromise run lanes lane buffer.old buffer.new (plain_value result) }
 {
     lane_checked(run, lanes, lane)?;
-    let own = lane_of(run, lanes, lane);
-    write_line(own, buffer)
+    write_line(lane_of(run, lanes, lane), buffer)
 }

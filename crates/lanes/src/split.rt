@@ -16,10 +16,7 @@ use words::bits::low_bits;
 fn jumped(k: u64) -> u64
     ensures { ((k ≡ 16) → (result ≡ 8)) × (((k ≡ 16) → ⊥) → (result ≡ k)) }
 {
-    if k == 16 {
-        return 8;
-    }
-    k
+    if k == 16 { 8 } else { k }
 }
 
 // The map of k steps of "times a, plus c".

@@ -20,9 +20,3 @@ pub count_of-requires : goal.count_of-requires
 count_of-requires c =
     let v = (valid_lane _ _ _ c.requires) in
     (v.range.lane, omega (arith, v.range.lane, v.range.enough))
-
-pub returns : goal.returns
-returns c =
-    let given = c.args in
-    lane_made given.run given.lanes given.lane c.element_at-seed.ensures c.rule_of-rule.ensures
-    c.count_of.ensures

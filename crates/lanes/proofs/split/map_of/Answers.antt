@@ -9,7 +9,3 @@ returns-then-k-eq16 c =
     let at = c.if-k-eq16.true in
     let half = walks_as (c.jumped.ensures.0 at) c.jump-map.ensures.walks in
     walks_as (sym at) (walks_add half half c.compose.ensures)
-
-pub returns : goal.returns
-returns c =
-    walks_as (c.jumped.ensures.1 (λ e. omega (arith, e, c.if-k-eq16.false))) c.jump-map.ensures.walks

@@ -10,44 +10,48 @@ fn start_of(link: u16) -> Option<usize>
     usize::from(link).checked_sub(1)
 }
 
-// Whether the n bytes at `at` stand at a link of the chain.
-fn stand_among(bytes: &[u8], at: usize, n: usize, first: u16, next: &[u16]) -> bool
-    requires first_le_at { first ≤ at }
-    requires n_in_bounds { at + n ≤ length bytes.now }
-    requires bytes_len_bound { length bytes.now ≤ 12 * length next.now }
-    requires falling { Falling next.now }
-    ensures { result ≡ stands_among bytes.now next.now (take n (drop at bytes.now)) first }
-{
-    let mut link = first;
-    while let Some(start) = start_of(link) {
-        if bytes[start..start + n] == bytes[at..at + n] {
-            return true;
-        }
-        link = next[start / 12];
-    }
-    false
+// The tables: the newest link of each slot, and behind each link, at a twelfth of its offset, the link before it.
+#[derive(Drop)]
+pub struct Chains<'a> {
+    pub head: &'a mut [u16],
+    pub next: &'a mut [u16],
 }
 
-// Whether the part from `at` to `end` stands in its slot already. It becomes the newest there.
-pub fn seen_before(
-    bytes: &[u8],
-    at: usize,
-    end: usize,
-    slot: usize,
-    head: &mut [u16],
-    next: &mut [u16],
-) -> bool
-    requires at_bound { at + 12 ≤ end }
-    requires end_in_bounds { end ≤ length bytes.now }
-    requires bytes_len_bound { length bytes.now ≤ 65536 }
-    requires slot_in_bounds { slot < length head.old }
-    requires tables { Tables bytes.now at head.old next.old }
-    ensures { Seen bytes.now at end slot head.old next.old head.new next.new result }
-{
-    let first = head[slot];
-    let seen = stand_among(bytes, at, end - at, first, &next[..]);
-    let link = (at + 1) as u16;
-    next[at / 12] = first;
-    head[slot] = link;
-    seen
+impl<'a> Chains<'a> {
+    // Whether the n bytes at `at` stand at a link of the chain.
+    fn stand_among(&self, bytes: &[u8], at: usize, n: usize, first: u16) -> bool
+        requires first_le_at { first ≤ at }
+        requires n_in_bounds { at + n ≤ length bytes.now }
+        requires bytes_len_bound { length bytes.now ≤ 12 * length self.now.next.now }
+        requires falling { Falling self.now.next.now }
+        ensures { result ≡ stands_among bytes.now self.now.next.now (take n (drop at bytes.now)) first }
+    {
+        let mut link = first;
+        while let Some(start) = start_of(link) {
+            if bytes[start..start + n] == bytes[at..at + n] {
+                return true;
+            }
+            link = self.next[start / 12];
+        }
+        false
+    }
+
+    // Whether the part from `at` to `end` stands in its slot already. It becomes the newest there.
+    pub fn seen_before(&mut self, bytes: &[u8], at: usize, end: usize, slot: usize) -> bool
+        requires at_bound { at + 12 ≤ end }
+        requires end_in_bounds { end ≤ length bytes.now }
+        requires bytes_len_bound { length bytes.now ≤ 65536 }
+        requires slot_in_bounds { slot < length self.old.head.now }
+        requires tables { Tables bytes.now at self.old.head.now self.old.next.now }
+        ensures seen { Seen bytes.now at end slot self.old.head.now self.old.next.now self.new.head.now self.new.next.now result }
+        ensures same_head { self.new.head.ghost_name ≡ self.old.head.ghost_name }
+        ensures same_next { self.new.next.ghost_name ≡ self.old.next.ghost_name }
+    {
+        let first = self.head[slot];
+        let seen = self.stand_among(bytes, at, end - at, first);
+        let link = (at + 1) as u16;
+        self.next[at / 12] = first;
+        self.head[slot] = link;
+        seen
+    }
 }

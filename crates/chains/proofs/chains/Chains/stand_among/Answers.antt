@@ -1,6 +1,6 @@
--- `chains::chains::stand_among` meets its contract: the links from the one looked at on decide.
+-- `Chains::stand_among` meets its contract: the links from the one looked at on decide.
 use Rattle.chains.proofs.Walking.{walk_here, walk_next, walk_end}
-use Rattle.chains.proofs.chains.stand_among.Goals as goal
+use Rattle.chains.proofs.chains.Chains.stand_among.Goals as goal
 
 pub returns-then-eq : goal.returns-then-eq
 returns-then-eq c =

@@ -5,6 +5,7 @@ ghost use Rattle.std.specs.Prelude.{◌≡◌, ◌%◌, ◌^◌};
 ghost use Rattle.affine.specs.Affine.{Composes, apply};
 ghost use Rattle.affine.specs.Trace.{Jumps, OneRound, Onward, Performed, Rounded, progress_of, selected_of};
 
+use std::hint::select_unpredictable;
 use words::wrapping_mul;
 
 // The map "times factor, plus offset", modulo 2^64.
@@ -50,7 +51,7 @@ pub struct Progress {
 fn selected(p: Progress) -> Affine
     ensures { result ≡ selected_of p }
 {
-    if p.left % 2 == 0 { IDENTITY } else { p.stride }
+    select_unpredictable(p.left % 2 == 0, IDENTITY, p.stride)
 }
 
 // One round: does what the lowest bit asks for, doubles the stride and goes on with half the index.

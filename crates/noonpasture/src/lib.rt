@@ -1,6 +1,6 @@
 // The calls over the C boundary, as include/noonpasture.h declares them: each is its call, answered in plain numbers. A slice
-// passes as a pointer and a length, and a player as a pointer. What a call leaves of a player is stored only where it is accepted,
-// since a refused call is to write no byte.
+// passes as a pointer and a length, and a player as a pointer. What a call leaves of a player is stored only where it is accepted
+// (`lent`), since a refused call is to write no byte.
 #![tactic(auto)]
 
 ghost use Rattle.std.specs.Prelude.{◌≡◌};
@@ -29,30 +29,24 @@ ghost use Rattle.summary.specs.Summary.{SummaryPromise};
 
 use archive_line::Part;
 use fixes::FixReply;
-use fixes::plain::of_fix;
 use gaps::GapReply;
-use gaps::plain::of_gap;
 use generator::Generator;
 use lines::RunReply;
-use lines::plain::of_run;
 use lookup::LookupReply;
-use lookup::plain::of_lookup;
 use low_places::PlacesReply;
-use low_places::plain::of_places;
-use orbits::plain::{of_index, of_orbit};
 use orbits::{IndexReply, OrbitReply};
+use player::states::lent;
 use player::{Player, forwarded, marked, moved_back, opened, returned, shown};
-use refusals::{ValueReply, of_value};
+use refusals::ValueReply;
 use runs::Run;
 use summary::SummaryReply;
-use summary::plain::of_summary;
 
 // The element at this index.
 #[unsafe(no_mangle)]
 pub extern "C" fn np_element(g: Generator, index: u64) -> ValueReply
     ensures { result ≡ value_reply (refusal_of g) (element g index) }
 {
-    of_value(generator::element(g, index))
+    generator::element(g, index).into()
 }
 
 // The preperiod and the period.
@@ -60,7 +54,7 @@ pub extern "C" fn np_element(g: Generator, index: u64) -> ValueReply
 pub extern "C" fn np_orbit(g: Generator) -> OrbitReply
     ensures { OrbitPromise g result }
 {
-    of_orbit(orbits::orbit(g))
+    orbits::orbit(g).into()
 }
 
 // The least index that yields the value, or never.
@@ -68,7 +62,7 @@ pub extern "C" fn np_orbit(g: Generator) -> OrbitReply
 pub extern "C" fn np_index(g: Generator, value: u64) -> IndexReply
     ensures { IndexPromise g value result }
 {
-    of_index(orbits::index(g, value))
+    orbits::index(g, value).into()
 }
 
 // The indices at which the element's lowest places are the value: the least, and how it goes on; or never.
@@ -76,7 +70,7 @@ pub extern "C" fn np_index(g: Generator, value: u64) -> IndexReply
 pub extern "C" fn np_index_places(g: Generator, places: u64, value: u64) -> PlacesReply
     ensures { PlacesPromise g places value result }
 {
-    of_places(low_places::index_places(g, places, value))
+    low_places::index_places(g, places, value).into()
 }
 
 // The steps from one number to another, back where they are negative, or never.
@@ -84,7 +78,7 @@ pub extern "C" fn np_index_places(g: Generator, places: u64, value: u64) -> Plac
 pub extern "C" fn np_gap(g: Generator, from: u64, to: u64) -> GapReply
     ensures { GapPromise g from to result }
 {
-    of_gap(gaps::gap(g, from, to))
+    gaps::gap(g, from, to).into()
 }
 
 // The only number that one step takes to this one.
@@ -92,7 +86,7 @@ pub extern "C" fn np_gap(g: Generator, from: u64, to: u64) -> GapReply
 pub extern "C" fn np_predecessor(g: Generator, value: u64) -> ValueReply
     ensures { PredecessorPromise g value result }
 {
-    of_value(predecessors::predecessor(g, value))
+    predecessors::predecessor(g, value).into()
 }
 
 // The largest odd power of 5 below 2^width.
@@ -100,7 +94,7 @@ pub extern "C" fn np_predecessor(g: Generator, value: u64) -> ValueReply
 pub extern "C" fn np_customary_multiplier(width: u64) -> ValueReply
     ensures { CustomaryPromise width result }
 {
-    of_value(customary::customary_multiplier(width))
+    customary::customary_multiplier(width).into()
 }
 
 // How many different numbers the run shows.
@@ -108,7 +102,7 @@ pub extern "C" fn np_customary_multiplier(width: u64) -> ValueReply
 pub extern "C" fn np_variety(run: Run) -> ValueReply
     ensures { VarietyPromise run result }
 {
-    of_value(variety::variety(run))
+    variety::variety(run).into()
 }
 
 // Writes the run's line, and gives its length.
@@ -116,7 +110,7 @@ pub extern "C" fn np_variety(run: Run) -> ValueReply
 pub extern "C" fn np_write_line(run: Run, buffer: &mut [u8]) -> ValueReply
     ensures { WritePromise run buffer.old buffer.new result }
 {
-    of_value(lines::write_line(run, buffer))
+    lines::write_line(run, buffer).into()
 }
 
 // The run whose line the bytes are.
@@ -124,7 +118,7 @@ pub extern "C" fn np_write_line(run: Run, buffer: &mut [u8]) -> ValueReply
 pub extern "C" fn np_read_line(bytes: &[u8]) -> RunReply
     ensures { ReadPromise bytes.now result }
 {
-    of_run(lines::read_line(bytes))
+    lines::read_line(bytes).into()
 }
 
 // Writes what the run shows from this position on, and gives how many numbers.
@@ -132,7 +126,7 @@ pub extern "C" fn np_read_line(bytes: &[u8]) -> RunReply
 pub extern "C" fn np_remake(run: Run, position: u64, values: &mut [u64]) -> ValueReply
     ensures { RemakePromise run position values.old values.new result }
 {
-    of_value(remake::remake(run, position, values))
+    remake::remake(run, position, values).into()
 }
 
 // Where the line with this number stands in the archive.
@@ -148,7 +142,7 @@ pub extern "C" fn np_line(archive: &[u8], line: u64) -> Part
 pub extern "C" fn np_lookup(archive: &[u8], value: u64) -> LookupReply
     ensures { LookupPromise archive.now value result }
 {
-    of_lookup(lookup::lookup(archive, value))
+    lookup::lookup(archive, value).into()
 }
 
 // How many lines the archive has, and the sum of their counts.
@@ -156,7 +150,7 @@ pub extern "C" fn np_lookup(archive: &[u8], value: u64) -> LookupReply
 pub extern "C" fn np_summary(archive: &[u8]) -> SummaryReply
     ensures { SummaryPromise archive.now result }
 {
-    of_summary(summary::summary(archive))
+    summary::summary(archive).into()
 }
 
 // Opens a run at position 0, with no mark set.
@@ -164,11 +158,7 @@ pub extern "C" fn np_summary(archive: &[u8]) -> SummaryReply
 pub extern "C" fn np_player_open(player: &mut Player, run: Run) -> u64
     ensures { PlayerPromise (Open run) player.old player.new (told result) }
 {
-    let taken = opened(*player, run);
-    if taken.refusal == 0 {
-        *player = taken.player;
-    }
-    taken.refusal
+    lent(player, run, opened)
 }
 
 // Moves on by this many positions.
@@ -176,11 +166,7 @@ pub extern "C" fn np_player_open(player: &mut Player, run: Run) -> u64
 pub extern "C" fn np_player_forward(player: &mut Player, steps: u64) -> u64
     ensures { PlayerPromise (Forward steps) player.old player.new (told result) }
 {
-    let taken = forwarded(*player, steps);
-    if taken.refusal == 0 {
-        *player = taken.player;
-    }
-    taken.refusal
+    lent(player, steps, forwarded)
 }
 
 // Moves back by this many positions.
@@ -188,11 +174,7 @@ pub extern "C" fn np_player_forward(player: &mut Player, steps: u64) -> u64
 pub extern "C" fn np_player_back(player: &mut Player, steps: u64) -> u64
     ensures { PlayerPromise (Back steps) player.old player.new (told result) }
 {
-    let taken = moved_back(*player, steps);
-    if taken.refusal == 0 {
-        *player = taken.player;
-    }
-    taken.refusal
+    lent(player, steps, moved_back)
 }
 
 // Sets a mark to the position held.
@@ -200,11 +182,7 @@ pub extern "C" fn np_player_back(player: &mut Player, steps: u64) -> u64
 pub extern "C" fn np_player_mark(player: &mut Player, mark: u64) -> u64
     ensures { PlayerPromise (SetMark mark) player.old player.new (told result) }
 {
-    let taken = marked(*player, mark);
-    if taken.refusal == 0 {
-        *player = taken.player;
-    }
-    taken.refusal
+    lent(player, mark, marked)
 }
 
 // Returns to a mark.
@@ -212,11 +190,7 @@ pub extern "C" fn np_player_mark(player: &mut Player, mark: u64) -> u64
 pub extern "C" fn np_player_return(player: &mut Player, mark: u64) -> u64
     ensures { PlayerPromise (Return mark) player.old player.new (told result) }
 {
-    let taken = returned(*player, mark);
-    if taken.refusal == 0 {
-        *player = taken.player;
-    }
-    taken.refusal
+    lent(player, mark, returned)
 }
 
 // The number at the position held.
@@ -224,7 +198,7 @@ pub extern "C" fn np_player_return(player: &mut Player, mark: u64) -> u64
 pub extern "C" fn np_player_show(player: &Player) -> ValueReply
     ensures { PlayerPromise Show player.now player.now result }
 {
-    shown(*player)
+    shown(*player).into()
 }
 
 // The fix with this number: east of position 2 × fix, north of the position behind it.
@@ -232,7 +206,7 @@ pub extern "C" fn np_player_show(player: &Player) -> ValueReply
 pub extern "C" fn np_fix_at(run: Run, fix: u64) -> FixReply
     ensures { FixPromise run fix result }
 {
-    of_fix(fixes::fix_at(run, fix))
+    fixes::fix_at(run, fix).into()
 }
 
 // The run of the lane with this number, of so many.
@@ -240,7 +214,7 @@ pub extern "C" fn np_fix_at(run: Run, fix: u64) -> FixReply
 pub extern "C" fn np_lane(run: Run, lanes: u64, lane: u64) -> RunReply
     ensures { LanePromise run lanes lane result }
 {
-    of_run(lanes::lane(run, lanes, lane))
+    lanes::lane(run, lanes, lane).into()
 }
 
 // Writes the line of that lane, and gives its length.
@@ -248,7 +222,7 @@ pub extern "C" fn np_lane(run: Run, lanes: u64, lane: u64) -> RunReply
 pub extern "C" fn np_write_lane(run: Run, lanes: u64, lane: u64, buffer: &mut [u8]) -> ValueReply
     ensures { WriteLanePromise run lanes lane buffer.old buffer.new result }
 {
-    of_value(lanes::write_lane(run, lanes, lane, buffer))
+    lanes::write_lane(run, lanes, lane, buffer).into()
 }
 
 // How many different numbers occur in both runs.
@@ -256,5 +230,5 @@ pub extern "C" fn np_write_lane(run: Run, lanes: u64, lane: u64, buffer: &mut [u
 pub extern "C" fn np_shared(first: Run, second: Run) -> ValueReply
     ensures { SharedPromise first second result }
 {
-    of_value(shared::shared(first, second))
+    shared::shared(first, second).into()
 }

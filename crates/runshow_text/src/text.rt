@@ -14,10 +14,8 @@ pub fn write_numbers(buf: &mut [u8], numbers: &[u64]) -> usize
     ensures { FrontWritten (numbers_lines numbers.now) buf.old buf.new result }
 {
     let mut at = 0;
-    let mut k = 0;
-    while k < numbers.len() {
-        at = write_field(buf, at, numbers[k], 10);
-        k += 1;
+    for &number in numbers {
+        at = write_field(buf, at, number, b'\n');
     }
     at
 }

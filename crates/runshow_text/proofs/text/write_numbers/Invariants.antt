@@ -1,12 +1,9 @@
--- The loop's invariant is `FrontSoFar`: the lines of the first k numbers stand at the buffer's front.
-use Prim.Native.Nat.{◌-◌}
-use lib.ListN.{length, drop}
+-- The loop's invariant is `FrontSoFar`: the lines of the numbers passed stand at the buffer's front.
+use Rattle.std.proofs.Common.{drop}
 use Rattle.fields.proofs.Codec.{FrontSoFar}
 use Rattle.runshow_text.specs.Text.{numbers_lines}
 use Rattle.runshow_text.proofs.text.write_numbers.Given as goal
 
-abbrev pub invariant-loop-k : goal.invariant-loop-k
-invariant-loop-k l = FrontSoFar (numbers_lines l.numbers) (numbers_lines (drop l.k l.numbers)) l.initial.buf l.buf l.at
-
-abbrev pub decreases-loop-k : goal.decreases-loop-k
-decreases-loop-k l = length l.numbers - l.k
+abbrev pub invariant-loop-number : goal.invariant-loop-number
+invariant-loop-number l =
+    FrontSoFar (numbers_lines l.numbers) (numbers_lines (drop l.number-index l.numbers)) l.initial.buf l.buf l.at

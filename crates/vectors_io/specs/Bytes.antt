@@ -1,8 +1,6 @@
 -- A count of bytes stays within the buffer that has them.
-use Rattle.std.specs.Prelude.{ℕ, ◌≤◌, List, length}
-use Rattle.vectors_io.specs.declared.numbers.Bytes.{Bytes}
-use Rattle.vectors_io.specs.declared.numbers.Bytes.TheVariants.{Count, Unreadable}
+use Rattle.std.specs.Prelude.{ℕ, ◌≤◌, List, length, Option, Some, None}
 
-abbrev pub Within : List ℕ → Bytes → Type 0
-Within buffer (Count n) = n ≤ length buffer
-Within buffer Unreadable = Unit {0}
+abbrev pub Within : List ℕ → Option ℕ → Type 0
+Within buffer (Some n) = n ≤ length buffer
+Within buffer None = Unit {0}

@@ -1,5 +1,5 @@
 // The calls on an archive.
-use crate::numbers::{Bytes, read_bytes};
+use crate::numbers::read_bytes;
 use crate::replies::Reply;
 use lookup::plain::of_lookup;
 use summary::plain::of_summary;
@@ -10,7 +10,7 @@ pub fn reply(letter: u8, n: &[u64]) -> Reply {
     if n.len() == 0 {
         return Reply::Unreadable;
     }
-    let Bytes::Count(count) = read_bytes(&n[1..], &mut buffer) else {
+    let Some(count) = read_bytes(&n[1..], &mut buffer) else {
         return Reply::Unreadable;
     };
     on_archive(letter, &buffer[0..count], n[0])
@@ -36,7 +36,7 @@ fn line(archive: &[u8], number: u64) -> Reply {
 // The reply to the call on the archive's bytes alone.
 pub fn summary(n: &[u64]) -> Reply {
     let mut buffer = [0u8; 256];
-    let Bytes::Count(count) = read_bytes(n, &mut buffer) else {
+    let Some(count) = read_bytes(n, &mut buffer) else {
         return Reply::Unreadable;
     };
     let r = of_summary(summary::summary(&buffer[0..count]));

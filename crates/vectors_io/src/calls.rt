@@ -1,7 +1,7 @@
 // The calls, each on its numbers.
 ghost use Rattle.std.specs.Prelude.{◌≡◌, ◌≤◌, nat_abs, length};
 
-use crate::numbers::{Bytes, read_bytes};
+use crate::numbers::read_bytes;
 use crate::replies::Reply;
 use crate::{archives, players};
 use fixes::plain::of_fix;
@@ -127,7 +127,7 @@ fn predecessor(n: &[u64]) -> Reply {
 
 fn read_line(n: &[u64]) -> Reply {
     let mut buffer = [0u8; 256];
-    let Bytes::Count(count) = read_bytes(n, &mut buffer) else {
+    let Some(count) = read_bytes(n, &mut buffer) else {
         return Reply::Unreadable;
     };
     of_line(lines::read_line(&buffer[0..count]))

@@ -61,6 +61,6 @@ fn answer(line: &[u8]) -> Reply {
         return Reply::Unreadable;
     }
     let mut given = [0u64; 256];
-    let n = numbers::read(&line[2..], &mut given);
+    let n = numbers::read(&line[2..], &mut given).unwrap_or(0);
     calls::reply(line[0], &given[0..n])
 }

@@ -1,81 +1,40 @@
 // The numbers of a call.
-ghost use Rattle.std.specs.Prelude.{◌≤◌, length};
+ghost use Rattle.std.specs.Prelude.{◌≤◌, length, IfSome};
 ghost use Rattle.vectors_io.specs.Bytes.{Within};
 
 use fields::line;
 
-// Reads the numbers of a line, and gives how many there are, 0 where one of them does not read or
-// there are more than fit.
-pub fn read(line: &[u8], numbers: &mut [u64]) -> usize
-    ensures { result ≤ length numbers.old }
+// Reads the numbers of a line, and gives how many there are. There are none where one of them does
+// not read or there are more than fit.
+pub fn read(line: &[u8], numbers: &mut [u64]) -> Option<usize>
+    ensures { IfSome result (λ n. n ≤ length numbers.old) }
 {
     let n = marks(line);
-    if numbers.len() < n {
-        return 0;
-    }
-    if !line::read(line, &mut numbers[..n]) {
-        return 0;
-    }
-    n
+    let room = numbers.get_mut(..n)?;
+    line::read(line, room).then_some(n)
 }
 
 // How many commas and bytes 10 there are.
 fn marks(line: &[u8]) -> usize {
-    let mut n = 0;
-    let mut i = 0;
-    while i < line.len() {
-        let b = line[i];
-        i += 1;
-        if b == 44 {
-            n += 1;
-            continue;
-        }
-        if b == 10 {
-            n += 1;
-        }
-    }
-    n
-}
-
-// What reading a list of bytes finds.
-#[derive(Clone, Copy)]
-pub enum Bytes {
-    Count(usize),
-    Unreadable,
+    line.iter().filter(|b| matches!(**b, b',' | b'\n')).count()
 }
 
 // Reads a list of bytes, in front of them their count, into a buffer.
-pub fn read_bytes(numbers: &[u64], buffer: &mut [u8]) -> Bytes
+pub fn read_bytes(numbers: &[u64], buffer: &mut [u8]) -> Option<usize>
     ensures { Within buffer.new result }
 {
-    if numbers.len() == 0 {
-        return Bytes::Unreadable;
+    let (&count, bytes) = numbers.split_first()?;
+    if count != bytes.len() as u64 {
+        return None;
     }
-    let count = numbers.len() - 1;
-    if numbers[0] != count as u64 {
-        return Bytes::Unreadable;
-    }
-    if buffer.len() < count {
-        return Bytes::Unreadable;
-    }
-    if !narrow(&numbers[1..], buffer) {
-        return Bytes::Unreadable;
-    }
-    Bytes::Count(count)
+    narrow(bytes, buffer.get_mut(..bytes.len())?)?;
+    Some(bytes.len())
 }
 
-// Makes numbers bytes, and tells whether each of them is one.
-fn narrow(numbers: &[u64], buffer: &mut [u8]) -> bool
-    requires { length numbers.now ≤ length buffer.old }
-{
-    let mut i = 0;
-    while i < numbers.len() {
-        let v = numbers[i];
-        if 255 < v {
-            return false;
-        }
-        buffer[i] = v as u8;
-        i += 1;
+// Makes numbers bytes, if each of them is one.
+fn narrow(numbers: &[u64], buffer: &mut [u8]) -> Option<()> {
+    for (byte, &number) in buffer.iter_mut().zip(numbers) {
+        *byte = u8::try_from(number).ok()?;
     }
-    true
+    Some(())
 }

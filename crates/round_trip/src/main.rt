@@ -6,23 +6,16 @@ ghost use Rattle.runs.specs.Run.{run_refusal};
 ghost use Rattle.lines.specs.ReadLine.{plain_run, run_reply};
 
 use generator::Generator;
-use lines::RunAnswer;
-use refusals::ValueAnswer;
+use refusals::Refusal;
 use runs::Run;
 
 // The run again, or its refusal.
-fn round_trip(run: Run) -> RunAnswer
+fn round_trip(run: Run) -> Result<Run, Refusal>
     ensures { plain_run result ≡ run_reply (run_refusal run) run }
 {
     let mut buffer = [0u8; 107];
-    let answer = lines::write_line(run, &mut buffer);
-    match answer {
-        ValueAnswer::Refused(refusal) => RunAnswer::Refused(refusal),
-        ValueAnswer::Value(n) => {
-            let length = n as usize;
-            lines::read_line(&buffer[..length])
-        }
-    }
+    let n = lines::write_line(run, &mut buffer)?;
+    lines::read_line(&buffer[..n as usize])
 }
 
 fn main() {
@@ -36,7 +29,7 @@ fn main() {
         first: 100,
         count: 8,
     };
-    let RunAnswer::Accepted(back) = round_trip(run) else {
+    let Ok(back) = round_trip(run) else {
         check::expect(false);
         return;
     };

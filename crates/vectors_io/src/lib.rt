@@ -3,9 +3,12 @@
 // line is no call.
 #![tactic(auto)]
 
+ghost use Rattle.std.specs.Prelude.{◌+◌, ◌≤◌, length};
+
+ghost use Rattle.std.specs.Prelude.{◌+◌, ◌≤◌, length};
+
 use archive::parts::part_end;
 use archive_io::input::read_input;
-use replies::Reply;
 use std::io;
 use std::io::{Input, Print, Write};
 
@@ -41,26 +44,34 @@ fn answer_all<W: Write>(output: &mut W, input: &[u8]) {
     let mut at = 0;
     while at < input.len() {
         let end = part_end(input, at);
-        let reply = answer(&input[at..end]);
-        filled = replies::write(&mut out, filled, reply);
+        filled = answer(&input[at..end], &mut out, filled);
         if 65000 < filled {
-            let _ = output.write_all(&out[0..filled]);
+            let _ = output.write_all(&out[..filled]);
             filled = 0;
         }
         at = end;
     }
-    let _ = output.write_all(&out[0..filled]);
+    let _ = output.write_all(&out[..filled]);
 }
 
-// The reply to the call that a line is.
-fn answer(line: &[u8]) -> Reply {
-    if line.len() < 2 {
-        return Reply::Unreadable;
-    }
-    if line[1] != 44 {
-        return Reply::Unreadable;
-    }
+// Writes the reply to the call that a line is at `at`, and gives the place behind it.
+fn answer(line: &[u8], out: &mut [u8], at: usize) -> usize
+    requires { at + 357 ≤ length out.old }
+    ensures { result ≤ at + 357 }
+{
     let mut given = [0u64; 256];
-    let n = numbers::read(&line[2..], &mut given).unwrap_or(0);
-    calls::reply(line[0], &given[0..n])
+    let call = call_of(line, &mut given);
+    match call {
+        Some((letter, numbers)) => calls::reply(letter, numbers, out, at),
+        None => replies::write_question(out, at),
+    }
+}
+
+// The letter of a call and its numbers, read into a buffer, if the line is one.
+fn call_of<'a>(line: &[u8], numbers: &'a mut [u64]) -> Option<(u8, &'a [u64])> {
+    let (&[letter, mark], list) = line.split_first_chunk::<2>()?;
+    if mark != b',' {
+        return None;
+    }
+    Some((letter, numbers::read(list, numbers)?))
 }

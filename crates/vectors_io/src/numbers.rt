@@ -1,40 +1,33 @@
 // The numbers of a call.
-ghost use Rattle.std.specs.Prelude.{◌≤◌, length, IfSome};
-ghost use Rattle.vectors_io.specs.Bytes.{Within};
-
 use fields::line;
 
-// Reads the numbers of a line, and gives how many there are. There are none where one of them does
-// not read or there are more than fit.
-pub fn read(line: &[u8], numbers: &mut [u64]) -> Option<usize>
-    ensures { IfSome result (λ n. n ≤ length numbers.old) }
-{
+// The numbers of a line, read into a buffer; none where one of them does not read or there are more than fit.
+pub fn read<'a>(line: &[u8], numbers: &'a mut [u64]) -> Option<&'a [u64]> {
     let n = marks(line);
-    let room = numbers.get_mut(..n)?;
-    line::read(line, room).then_some(n)
+    if numbers.len() < n {
+        return None;
+    }
+    let room = &mut numbers[..n];
+    if !line::read(line, room) {
+        return None;
+    }
+    Some(room)
 }
 
 // How many commas and bytes 10 there are.
 fn marks(line: &[u8]) -> usize {
-    line.iter().filter(|b| matches!(**b, b',' | b'\n')).count()
+    line.iter().filter(|&&b| b == b',' || b == b'\n').count()
 }
 
-// Reads a list of bytes, in front of them their count, into a buffer.
-pub fn read_bytes(numbers: &[u64], buffer: &mut [u8]) -> Option<usize>
-    ensures { Within buffer.new result }
-{
+// The bytes of a list of them, in front of them their count, made in a buffer.
+pub fn read_bytes<'a>(numbers: &[u64], buffer: &'a mut [u8]) -> Option<&'a [u8]> {
     let (&count, bytes) = numbers.split_first()?;
-    if count != bytes.len() as u64 {
+    if count != bytes.len() as u64 || buffer.len() < bytes.len() {
         return None;
     }
-    narrow(bytes, buffer.get_mut(..bytes.len())?)?;
-    Some(bytes.len())
-}
-
-// Makes numbers bytes, if each of them is one.
-fn narrow(numbers: &[u64], buffer: &mut [u8]) -> Option<()> {
-    for (byte, &number) in buffer.iter_mut().zip(numbers) {
-        *byte = u8::try_from(number).ok()?;
+    let room = &mut buffer[..bytes.len()];
+    for (place, &number) in room.iter_mut().zip(bytes) {
+        *place = u8::try_from(number).ok()?;
     }
-    Some(())
+    Some(room)
 }

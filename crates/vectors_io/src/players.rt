@@ -2,89 +2,63 @@
 ghost use Rattle.std.specs.Prelude.{◌≤◌, length};
 
 use crate::calls::run_of;
-use crate::replies::Reply;
-use player::{Mark, Outcome, Player, forwarded, marked, moved_back, opened, returned, shown};
+use player::states::lent;
+use player::{Mark, Player, forwarded, marked, moved_back, opened, returned, shown};
+use refusals::ValueReply;
 use runs::Run;
-
-// What a call gives, and leaves.
-#[derive(Clone, Copy)]
-struct Step {
-    refusal: u64,
-    value: u64,
-    player: Player,
-}
 
 // The reply to the last call, and the record after it: the 15 numbers of the record before the first, the 6 of the run that is
 // opened, then two numbers for each call.
-pub fn reply(n: &[u64]) -> Reply {
-    if n.len() < 21 {
-        return Reply::Unreadable;
-    }
-    let run = run_of(&n[15..]);
-    told(made(&n[21..], run, player_of(n)))
+pub fn reply(n: &[u64]) -> Option<[u64; 17]> {
+    let (record, calls) = n.split_first_chunk::<21>()?;
+    let run = run_of(&record[15..]);
+    let mut player = player_of(record);
+    let last = made(calls, run, &mut player);
+    Some(told(last, player))
 }
 
-// Makes the calls.
-fn made(calls: &[u64], run: Run, player: Player) -> Step {
-    let mut step = Step {
+// Makes the calls, and gives the reply to the last one.
+fn made(calls: &[u64], run: Run, player: &mut Player) -> ValueReply {
+    let mut last = ValueReply {
         refusal: 0,
         value: 0,
-        player,
     };
-    let mut i = 0;
-    while 2 <= calls.len() - i {
-        let before = step.player;
-        step = called(before, run, calls[i], calls[i + 1]);
-        i += 2;
+    for call in calls.chunks_exact(2) {
+        last = called(player, run, call[0], call[1]);
     }
-    step
+    last
 }
 
 // One call, by its number.
-fn called(player: Player, run: Run, call: u64, argument: u64) -> Step {
+fn called(player: &mut Player, run: Run, call: u64, argument: u64) -> ValueReply {
     match call {
-        0 => silent(opened(player, run)),
-        1 => silent(forwarded(player, argument)),
-        2 => silent(moved_back(player, argument)),
-        3 => silent(marked(player, argument)),
-        4 => silent(returned(player, argument)),
-        _ => showing(player),
+        0 => silent(lent(player, run, opened)),
+        1 => silent(lent(player, argument, forwarded)),
+        2 => silent(lent(player, argument, moved_back)),
+        3 => silent(lent(player, argument, marked)),
+        4 => silent(lent(player, argument, returned)),
+        _ => shown(*player).into(),
     }
 }
 
-fn silent(outcome: Outcome) -> Step {
-    let player = outcome.player;
-    Step {
-        refusal: outcome.refusal,
-        value: 0,
-        player,
-    }
-}
-
-fn showing(player: Player) -> Step {
-    let r = shown(player);
-    Step {
-        refusal: r.refusal,
-        value: r.value,
-        player,
-    }
+// The reply to a call that shows no number.
+fn silent(refusal: u64) -> ValueReply {
+    ValueReply { refusal, value: 0 }
 }
 
 // The record of the first 15 numbers.
 fn player_of(n: &[u64]) -> Player
     requires { 15 ≤ length n.now }
 {
-    let run = run_of(n);
-    let marks = [
-        mark_of(&n[7..]),
-        mark_of(&n[9..]),
-        mark_of(&n[11..]),
-        mark_of(&n[13..]),
-    ];
     Player {
-        run,
+        run: run_of(n),
         position: n[6],
-        marks,
+        marks: [
+            mark_of(&n[7..]),
+            mark_of(&n[9..]),
+            mark_of(&n[11..]),
+            mark_of(&n[13..]),
+        ],
     }
 }
 
@@ -98,18 +72,13 @@ fn mark_of(n: &[u64]) -> Mark
 }
 
 // All of it in plain numbers.
-fn told(step: Step) -> Reply {
-    let player = step.player;
+fn told(last: ValueReply, player: Player) -> [u64; 17] {
     let run = player.run;
     let g = run.generator;
-    let marks = player.marks;
-    let a = marks[0];
-    let b = marks[1];
-    let c = marks[2];
-    let d = marks[3];
-    Reply::Seventeen(
-        step.refusal,
-        step.value,
+    let [a, b, c, d] = player.marks;
+    [
+        last.refusal,
+        last.value,
         g.width,
         g.multiplier,
         g.increment,
@@ -125,5 +94,5 @@ fn told(step: Step) -> Reply {
         c.position,
         d.set,
         d.position,
-    )
+    ]
 }

@@ -7,7 +7,7 @@ use Rattle.fixes.proofs.Promises.{numbers}
 use Rattle.vectors_io.proofs.calls.fix_at.Goals as goal
 
 pub float_to_bits-result : goal.float_to_bits-result
-float_to_bits-result c = rw c.of_fix-r.ensures (numbers c.fix_at.ensures).0
+float_to_bits-result c = rw c.from-r.ensures (numbers c.fix_at.ensures).0
 
 pub float_to_bits-result-2 : goal.float_to_bits-result-2
-float_to_bits-result-2 c = rw c.of_fix-r.ensures (numbers c.fix_at.ensures).1
+float_to_bits-result-2 c = rw c.from-r.ensures (numbers c.fix_at.ensures).1

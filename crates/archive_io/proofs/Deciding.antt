@@ -3,7 +3,7 @@
 -- comes first, the outcome for the question and the file is right for standard input and the file.
 use mathlib.Core.Path.{◌≡◌, refl, sym, ap, ◌∙◌}
 use mathlib.Core.List.{List, [], ◌++◌}
-use Prim.Native.Nat.{ℕ, ◌≤◌, ◌<◌}
+use Prim.Native.Nat.{ℕ, ◌<◌}
 use native.Mathlib.Omega.{arith}
 use lib.ListN.{length, length-append}
 use Rattle.archive_io.specs.declared.input.Rest.{Rest}
@@ -28,7 +28,7 @@ module _ {A : Type 0} (outcome_of : Source → A) {archive : List ℕ} {rest : R
   decided_front too_long t h same =
       record {
         is = λ file r.
-            let many : 65537 ≤ length archive = rw t at h in
+            let many = h t in
             let front : (more : List ℕ) × (file ≡ holds (archive ++ more)) = rw t at r in
             same ∙ too_long archive (omega arith)
             ∙ sym (ap outcome_of front.1 ∙ too_long (archive ++ front.0) (simp length-append (omega arith)));

@@ -1,3 +1,2 @@
--- `Filling` has what each step of reading shows, and `Deciding` what is told for all that was read.
-pub mod Filling
+-- `Deciding` has what is told for all that was read.
 pub mod Deciding

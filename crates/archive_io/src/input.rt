@@ -1,15 +1,15 @@
 // Reading standard input and the archive. No contract can say which bytes a read brings, so these
-// functions only fill a buffer and tell how many bytes of it were read and what may follow them. What
+// functions only fill a buffer and tell which bytes of it were read and what may follow them. What
 // they tell is made of what the last read gave, and goes with it wherever it goes.
-ghost use Rattle.std.specs.Prelude.{IfOk, ◌≡◌, ◌+◌, ◌-◌, ◌^◌, ◌<◌, length};
-ghost use Rattle.archive_io.specs.Input.{After, Filled, GoesOn, given, reading_after, rest_after};
+ghost use Rattle.std.specs.Prelude.{IfSome, ◌≡◌, ◌+◌, ◌-◌, ◌^◌, ◌<◌, ◌≤◌, length};
+ghost use Rattle.archive_io.specs.Input.{After, Enough, given, reading_after};
 
-use std::fs;
-use std::io::{Input, Read};
+use std::io::Read;
 use std::rt::Files;
+use std::{fs, io};
 
 // What follows the bytes read: nothing, since the input ended; perhaps more; or the read failed.
-#[derive(Clone, Copy)]
+#[derive(Clone, Copy, PartialEq, Eq)]
 pub enum Rest {
     Nothing,
     Unknown,
@@ -18,33 +18,46 @@ pub enum Rest {
 
 // How many bytes at the start of the buffer were read, and what follows them.
 #[derive(Clone, Copy)]
-pub struct Reading {
-    pub n: usize,
-    pub rest: Rest,
+struct Reading {
+    n: usize,
+    rest: Rest,
 }
 
-// The last read: how many bytes stood in the buffer before it, what it gave, and the reading after it. Its fields but the last
-// are private, so that no other crate can make one up.
+// The last read: how many bytes stood in the buffer before it, how many it gave, or none if it failed, and the reading after it.
 #[derive(Clone, Copy)]
-pub struct LastRead {
+struct LastRead {
     before: usize,
-    got: isize,
-    pub reading: Reading,
+    got: Option<usize>,
+    reading: Reading,
+}
+
+// What was read of an input: the bytes, what follows them, and how many there was room for. What it says is what the last read
+// gave, which is private, so that no other crate can make one up; where more may follow, the room is full.
+#[derive(Clone, Copy)]
+pub struct Input<'a> {
+    pub bytes: &'a [u8],
+    pub rest: Rest,
+    pub room: usize,
+    last: LastRead,
+    ghost after: { After room last },
+    ghost reading: { last.reading ≡ record { n = length bytes.now; rest = rest } },
+    ghost within: { length bytes.now ≤ room },
+    ghost full: { Enough room (length bytes.now) rest },
 }
 
 // Reads standard input.
-pub fn read_input(rt: &impl Input, buf: &mut [u8]) -> LastRead
+pub fn read_input<'a>(rt: &impl io::Input, buf: &'a mut [u8]) -> Input<'a>
     requires { 0 < length buf.old }
-    ensures { Filled buf.new result }
+    ensures { result.room ≡ length buf.old }
 {
     let mut input = rt.reader();
     read_to_end(&mut input, buf)
 }
 
 // Reads the archive, and closes it.
-pub fn read_archive(rt: &impl Files, buf: &mut [u8]) -> LastRead
+pub fn read_archive<'a>(rt: &impl Files, buf: &'a mut [u8]) -> Input<'a>
     requires { 0 < length buf.old }
-    ensures { Filled buf.new result }
+    ensures { result.room ≡ length buf.old }
 {
     match fs::open(rt, "archive.csv") {
         Ok(mut file) => read_to_end(&mut file, buf),
@@ -53,40 +66,40 @@ pub fn read_archive(rt: &impl Files, buf: &mut [u8]) -> LastRead
 }
 
 // Nothing could be read into the buffer, or nothing was: as after a first read that failed.
-pub fn not_read(buf: &[u8]) -> LastRead
-    ensures { Filled buf.now result }
+pub fn not_read(buf: &[u8]) -> Input<'_>
+    ensures { result.room ≡ length buf.now }
 {
-    LastRead {
-        before: 0,
-        got: -1,
-        reading: reading_after(0, -1, buf),
+    let reading = reading_after(0, None, buf.len());
+    Input {
+        bytes: &buf[..reading.n],
+        rest: reading.rest,
+        room: buf.len(),
+        last: LastRead {
+            before: 0,
+            got: None,
+            reading,
+        },
     }
 }
 
 // Reads until the buffer is full, the input ends or a read fails. The input may come in pieces.
-fn read_to_end<R: Read>(source: &mut R, buf: &mut [u8]) -> LastRead
+fn read_to_end<'a, R: Read>(source: &mut R, buf: &'a mut [u8]) -> Input<'a>
     requires { 0 < length buf.old }
-    ensures { Filled buf.new result }
+    ensures { result.room ≡ length buf.old }
 {
-    let mut last = read_more(source, buf, 0);
-    while goes_on(last.reading, buf.len()) {
-        let reading = last.reading;
-        let n = reading.n;
-        let next = read_more(source, buf, n);
-        last = next;
-    }
-    last
-}
-
-// Whether to read on: something may follow, and there is room for it.
-fn goes_on(reading: Reading, size: usize) -> bool
-    ensures { GoesOn size reading result }
-{
-    let rest = reading.rest;
-    match rest {
-        Rest::Nothing => false,
-        Rest::Unknown => reading.n < size,
-        Rest::Failed => false,
+    let mut before = 0;
+    loop {
+        let last = read_more(source, buf, before);
+        let Reading { n, rest } = last.reading;
+        if rest != Rest::Unknown || n == buf.len() {
+            return Input {
+                bytes: &buf[..n],
+                rest,
+                room: buf.len(),
+                last,
+            };
+        }
+        before = n;
     }
 }
 
@@ -94,47 +107,41 @@ fn goes_on(reading: Reading, size: usize) -> bool
 // the program handles no signal, so none is interrupted.
 fn read_more<R: Read>(source: &mut R, buf: &mut [u8], before: usize) -> LastRead
     requires { before < length buf.old }
-    ensures { (result.before ≡ before) × After buf.new result }
+    ensures { (result.before ≡ before) × After (length buf.new) result }
 {
     let got = given(source.read(&mut buf[before..]));
     LastRead {
         before,
         got,
-        reading: reading_after(before, got, &buf[before..]),
+        reading: reading_after(before, got, buf.len() - before),
     }
 }
 
-// What a read gave: how many bytes, or -1 if it failed.
-fn given(read: std::io::Result<usize>) -> isize
-    requires { IfOk read (λ n. n < 2 ^ 63) }
+// What a read gave: how many bytes, or none if it failed.
+fn given(read: io::Result<usize>) -> Option<usize>
     ensures { result ≡ given read }
 {
-    match read {
-        Ok(n) => n as isize,
-        Err(_) => -1,
-    }
+    read.ok()
 }
 
-// The reading after a read that gave so much, behind so many bytes and into this room.
-fn reading_after(before: usize, got: isize, room: &[u8]) -> Reading
-    requires { before + length room.now < 2 ^ 64 }
-    ensures { result ≡ reading_after before got (length room.now) }
+// The reading after a read that gave so much, behind so many bytes and into so much room.
+fn reading_after(before: usize, got: Option<usize>, room: usize) -> Reading
+    requires end_bound { before + room < 2 ^ 64 }
+    requires got_bound { IfSome got (λ n. n ≤ room) }
+    ensures { result ≡ reading_after before got room }
 {
-    let rest = rest_after(got);
-    let more = io::count(got, room);
-    let n = before + more;
-    Reading { n, rest }
-}
-
-// What follows the bytes read, by what the last read gave.
-fn rest_after(got: isize) -> Rest
-    ensures { result ≡ rest_after got }
-{
-    if got < 0 {
-        return Rest::Failed;
+    match got {
+        Some(0) => Reading {
+            n: before,
+            rest: Rest::Nothing,
+        },
+        Some(n) => Reading {
+            n: before + n,
+            rest: Rest::Unknown,
+        },
+        None => Reading {
+            n: before,
+            rest: Rest::Failed,
+        },
     }
-    if got > 0 {
-        return Rest::Unknown;
-    }
-    Rest::Nothing
 }

@@ -3,7 +3,8 @@
 -- comes first, the outcome for the question and the file is right for standard input and the file.
 use mathlib.Core.Path.{◌≡◌, refl, sym, ap, ◌∙◌}
 use mathlib.Core.List.{List, [], ◌++◌}
-use Prim.Native.Nat.{ℕ, ◌<◌}
+use Prim.Native.Nat.{ℕ, ◌≤◌}
+use Rattle.std.proofs.Common.{◌≢◌}
 use native.Mathlib.Omega.{arith}
 use lib.ListN.{length, length-append}
 use Rattle.archive_io.specs.declared.input.Rest.{Rest}
@@ -18,21 +19,29 @@ source_some bytes Nothing = (holds bytes, refl)
 source_some bytes Unknown = (holds (bytes ++ []), ([], refl))
 source_some bytes Failed = (unreadable, refl)
 
--- What a program tells of the file, by what follows the bytes read.
-module _ {A : Type 0} (outcome_of : Source → A) {archive : List ℕ} {rest : Rest} {outcome : A} where
-  pub decided_all : rest ≡ Nothing → outcome ≡ outcome_of (holds archive) → Decided outcome_of archive rest outcome
-  decided_all t same = record { is = λ file r. same ∙ ap outcome_of (sym (rw t at r)) }
+-- What does not rest on more bytes than were read where more may follow: it is the same of the source and of the bytes read.
+module _ {A : Type 0} (f : Source → A) {long : A} {needed : ℕ} (too_long : (bytes : List ℕ) → needed ≤ length bytes → f (holds bytes) ≡ long)
+  where
+    front_decides : {bytes : List ℕ} (rest : Rest) → rest ≢ Failed → Enough needed (length bytes) rest → (source : Source) →
+        ReadOf source bytes rest → f source ≡ f (holds bytes)
+    front_decides Nothing some enough source r = ap f r
+    front_decides {bytes} Unknown some enough source r =
+        ap f r.1
+        ∙ too_long (bytes ++ r.0) (simp length-append (omega (arith, enough refl)))
+        ∙ sym (too_long bytes (enough refl))
+    front_decides Failed some enough source r = absurd (some refl)
 
-  pub decided_front : {long : A} → ((bytes : List ℕ) → 65536 < length bytes → outcome_of (holds bytes) ≡ long) → rest ≡ Unknown →
-      Enough 65537 (length archive) rest → outcome ≡ outcome_of (holds archive) → Decided outcome_of archive rest outcome
-  decided_front too_long t h same =
-      record {
-        is = λ file r.
-            let many = h t in
-            let front : (more : List ℕ) × (file ≡ holds (archive ++ more)) = rw t at r in
-            same ∙ too_long archive (omega arith)
-            ∙ sym (ap outcome_of front.1 ∙ too_long (archive ++ front.0) (simp length-append (omega arith)));
-      }
+    pub read_decides : {bytes : List ℕ} {rest : Rest} {room : ℕ} → rest ≢ Failed → Enough room (length bytes) rest → needed ≤ room →
+        (source : Source) → ReadOf source bytes rest → f source ≡ f (holds bytes)
+    read_decides {rest = rest} some full enough = front_decides rest some (λ u. omega (arith, full u))
+
+-- What a program tells of the file, by whether it was read.
+module _ {A : Type 0} (outcome_of : Source → A) {archive : List ℕ} {rest : Rest} {outcome : A} where
+  pub decided_read : {long : A} {room : ℕ} → ((bytes : List ℕ) → 65537 ≤ length bytes → outcome_of (holds bytes) ≡ long) →
+      rest ≢ Failed → Enough room (length archive) rest → 65537 ≤ room → outcome ≡ outcome_of (holds archive) →
+      Decided outcome_of archive rest outcome
+  decided_read too_long some full enough same =
+      record { is = λ file r. same ∙ sym (read_decides outcome_of too_long some full enough file r) }
 
   pub decided_unread : rest ≡ Failed → outcome ≡ outcome_of unreadable → Decided outcome_of archive rest outcome
   decided_unread t same = record { is = λ file r. same ∙ ap outcome_of (sym (rw t at r)) }

@@ -1,7 +1,8 @@
 // Reading standard input and the archive. No contract can say which bytes a read brings, so these
 // functions only fill a buffer and tell which bytes of it were read and what may follow them. What
 // they tell is made of what the last read gave, and goes with it wherever it goes.
-ghost use Rattle.std.specs.Prelude.{IfSome, ◌≡◌, ◌+◌, ◌-◌, ◌^◌, ◌<◌, ◌≤◌, length};
+ghost use Rattle.std.specs.Prelude.{IfSome, MatchOption, ◌≢◌, ◌≡◌, ◌+◌, ◌-◌, ◌^◌, ◌<◌, ◌≤◌, length};
+ghost use Rattle.archive_io.specs.declared.input.Rest.TheVariants.{Failed};
 ghost use Rattle.archive_io.specs.Input.{After, Enough, given, reading_after};
 
 use std::io::Read;
@@ -43,6 +44,18 @@ pub struct Input<'a> {
     ghost reading: { last.reading ≡ record { n = length bytes.now; rest = rest } },
     ghost within: { length bytes.now ≤ room },
     ghost full: { Enough room (length bytes.now) rest },
+}
+
+impl<'a> Input<'a> {
+    // The bytes, if no read failed.
+    pub fn readable(self) -> Option<&'a [u8]>
+        ensures { MatchOption result (self.entry.rest ≡ Failed) (λ bytes. (bytes.now ≡ self.entry.bytes.now) × (self.entry.rest ≢ Failed)) }
+    {
+        match self.rest {
+            Rest::Failed => None,
+            Rest::Nothing | Rest::Unknown => Some(self.bytes),
+        }
+    }
 }
 
 // Reads standard input.

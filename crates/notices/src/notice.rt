@@ -10,7 +10,7 @@ use fields::line;
 #[derive(Clone, Copy)]
 pub enum Notice {
     NotFound,
-    // The number of a refusal and that of a line.
+    // The number of a refusal and that of a line. No `Refusal`: `write_notice` and the programs' `print_outcome` write any number.
     Refused(u64, u64),
     BadQuestion,
     Unread,
@@ -37,6 +37,7 @@ fn write_refused(buf: &mut [u8], number: u64, line: u64) -> usize
 }
 
 // Writes the line of two numbers.
+#[tactic(auto, using(crate::proofs::Words::pair_short))]
 pub fn write_pair(buf: &mut [u8], first: u64, second: u64) -> usize
     requires { 42 ≤ length buf.old }
     ensures { FrontWritten (fields_line (first ∷ second ∷ [])) buf.old buf.new result }

@@ -1,10 +1,10 @@
 -- The line that the program writes for each outcome.
-use Rattle.std.specs.Prelude.{List, [], ◌∷◌, ℕ}
+use Rattle.std.specs.Prelude.{List, [], ◌∷◌, ℕ, Result, Ok, Err}
 use Rattle.fields.specs.Line.{fields_line}
+use Rattle.notices.specs.declared.notice.Notice.{Notice}
 use Rattle.notices.specs.Notice.{notice_line}
-use Rattle.runfind_output.specs.declared.output.Outcome.{Outcome}
-use Rattle.runfind_output.specs.declared.output.Outcome.TheVariants.{Location, Told}
+use Rattle.runfind_output.specs.declared.output.Location.{Location}
 
-abbrev pub outcome_line : Outcome → List ℕ
-outcome_line (Location line position) = fields_line (line ∷ position ∷ [])
-outcome_line (Told notice) = notice_line notice
+abbrev pub outcome_line : Result Location Notice → List ℕ
+outcome_line (Ok location) = fields_line (location.line ∷ location.position ∷ [])
+outcome_line (Err notice) = notice_line notice

@@ -8,12 +8,15 @@ use archive_io::output::print;
 use notices::notice::{Notice, write_notice, write_pair};
 use std::io::Write;
 
+// The number of a line and a position of its run.
 #[derive(Clone, Copy)]
-pub enum Outcome {
-    // The number of a line and a position.
-    Location(u64, u64),
-    Told(Notice),
+pub struct Location {
+    pub line: u64,
+    pub position: u64,
 }
+
+// The location found, or what is told in its place.
+pub type Outcome = Result<Location, Notice>;
 
 // Prints it, and tells whether it could be written. If not, the complaint goes to standard error.
 pub fn print_outcome<W: Write, E: Write>(output: &mut W, errors: &mut E, outcome: Outcome) -> bool
@@ -35,7 +38,7 @@ pub fn write_outcome(buf: &mut [u8], outcome: Outcome) -> usize
     ensures { FrontWritten (outcome_line outcome) buf.old buf.new result }
 {
     match outcome {
-        Outcome::Location(line, position) => write_pair(buf, line, position),
-        Outcome::Told(notice) => write_notice(buf, notice),
+        Ok(Location { line, position }) => write_pair(buf, line, position),
+        Err(notice) => write_notice(buf, notice),
     }
 }

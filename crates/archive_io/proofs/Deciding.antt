@@ -37,11 +37,16 @@ module _ {A : Type 0} (f : Source → A) {long : A} {needed : ℕ} (too_long : (
 
 -- What a program tells of the file, by whether it was read.
 module _ {A : Type 0} (outcome_of : Source → A) {archive : List ℕ} {rest : Rest} {outcome : A} where
-  pub decided_read : {long : A} {room : ℕ} → ((bytes : List ℕ) → 65537 ≤ length bytes → outcome_of (holds bytes) ≡ long) →
-      rest ≢ Failed → Enough room (length archive) rest → 65537 ≤ room → outcome ≡ outcome_of (holds archive) →
+  pub decided_read : {long : A} {bytes : List ℕ} {room : ℕ} → ((bs : List ℕ) → 65537 ≤ length bs → outcome_of (holds bs) ≡ long) →
+      (bytes ≡ archive) × (rest ≢ Failed) → Enough room (length archive) rest → 65537 ≤ room → outcome ≡ outcome_of (holds bytes) →
       Decided outcome_of archive rest outcome
-  decided_read too_long some full enough same =
-      record { is = λ file r. same ∙ sym (read_decides outcome_of too_long some full enough file r) }
+  decided_read too_long readable full enough same =
+      record {
+        is = λ file r.
+            same
+            ∙ ap (λ (bs : List ℕ). outcome_of (holds bs)) readable.0
+            ∙ sym (read_decides outcome_of too_long readable.1 full enough file r);
+      }
 
   pub decided_unread : rest ≡ Failed → outcome ≡ outcome_of unreadable → Decided outcome_of archive rest outcome
   decided_unread t same = record { is = λ file r. same ∙ ap outcome_of (sym (rw t at r)) }

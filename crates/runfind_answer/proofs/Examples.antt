@@ -14,7 +14,7 @@ use Rattle.archive.specs.Archive.{lines_of}
 use Rattle.archive.specs.Check.{is_among, first_refused, check_of}
 use Rattle.lookup.specs.Lookup.{position_of, first_showing, lookup_of}
 use Rattle.archive_io.specs.Source.{Source, holds, unreadable}
-use Rattle.runfind_answer.specs.declared.decision.Question.TheVariants.{Number, Malformed}
+use Rattle.std.proofs.Common.{None, Some}
 use Rattle.runfind_answer.specs.Decision.{asked_of, outcome_for}
 use Rattle.runfind_output.specs.Output.{outcome_line}
 
@@ -30,7 +30,7 @@ questions :
     ∷ ascii "\n"
     ∷ ascii ""
     ∷ [])
-    ≡ Number 18446744073709551615 ∷ Malformed ∷ Malformed ∷ Malformed ∷ Malformed ∷ Malformed ∷ Malformed ∷ Malformed ∷ []
+    ≡ Some 18446744073709551615 ∷ None ∷ None ∷ None ∷ None ∷ None ∷ None ∷ None ∷ []
 unfolding is_line numbers_from fields_line digits_of last_digits
 questions = refl
 

@@ -1,6 +1,5 @@
 -- `answer::answer` meets its contract: each outcome is the one of the lookup's answer.
 use Rattle.runfind_answer.proofs.Answering.{outcome_location, outcome_none, outcome_refused}
-use borrow.Author.Rules.{rules}
 use Rattle.runfind_answer.proofs.answer.answer.Goals as goal
 
 pub returns-in-At : goal.returns-in-At

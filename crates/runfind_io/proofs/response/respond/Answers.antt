@@ -2,19 +2,10 @@
 use mathlib.Core.Path.{refl}
 use Rattle.archive_io.proofs.Deciding.{answered_none, answered}
 use Rattle.runfind_answer.proofs.Deciding.{number_some}
-use borrow.Author.Rules.{rules}
 use Rattle.runfind_io.proofs.response.respond.Goals as goal
 
 pub returns-in_default : goal.returns-in_default
-returns-in_default g c =
-    record {
-      answered = answered_none c.asked.ensures c.in_default.is (λ file. refl);
-      filled_2 = c.not_read.ensures;
-    }
+returns-in_default g c = answered_none c.asked.ensures c.in_default.is (λ file. refl)
 
 pub returns : goal.returns
-returns g c =
-    record {
-      answered = answered c.asked.ensures c.in-Number.is number_some c.decide-outcome.ensures;
-      filled_2 = c.read_archive-archive.ensures;
-    }
+returns g c = answered c.asked.ensures c.in-Some.is number_some c.decide-outcome.ensures

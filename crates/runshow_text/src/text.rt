@@ -15,9 +15,17 @@ pub fn write_numbers(buf: &mut [u8], numbers: &[u64]) -> usize
 {
     let mut at = 0;
     for &number in numbers {
-        at = write_field(buf, at, number, b'\n');
+        at = write_field(buf, at, number, 10);
     }
     at
+}
+
+// The part of a run that is asked for: as many numbers, from this position on.
+#[derive(Clone, Copy)]
+pub struct Part {
+    pub run: Run,
+    pub first: u64,
+    pub many: u64,
 }
 
 // How many numbers a chunk has, and how many bytes they take.
@@ -29,22 +37,15 @@ pub struct Chunk {
 
 // Remakes as many numbers as there is room for and as are left of those asked for, behind those shown, and writes them to the
 // front of the buffer.
-pub fn write_chunk(
-    run: Run,
-    first: u64,
-    many: u64,
-    shown: u64,
-    numbers: &mut [u64],
-    buf: &mut [u8],
-) -> Chunk
+pub fn write_chunk(part: Part, shown: u64, numbers: &mut [u64], buf: &mut [u8]) -> Chunk
     requires numbers_in_bounds { 21 * length numbers.old ≤ length buf.old }
-    requires shown_bound { shown ≤ part_due run first many }
-    ensures { ChunkPromise run first many shown (length numbers.old) buf.old buf.new result }
+    requires shown_bound { shown ≤ part_due part.run part.first part.many }
+    ensures { ChunkPromise part.run part.first part.many shown (length numbers.old) buf.old buf.new result }
 {
-    let ValueAnswer::Value(n) = remake::remake(run, first + shown, numbers) else {
+    let ValueAnswer::Value(n) = remake::remake(part.run, part.first + shown, numbers) else {
         return Chunk { made: 0, bytes: 0 };
     };
-    let made = fitting(n as usize, many - shown);
+    let made = fitting(n as usize, part.many - shown);
     Chunk {
         made,
         bytes: write_numbers(buf, &numbers[..made]),

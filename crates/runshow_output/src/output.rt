@@ -5,99 +5,67 @@ ghost use Rattle.runshow_text.specs.Text.{part_due};
 
 use archive_io::output::print;
 use notices::notice::{Notice, write_notice};
-use runs::Run;
-use runshow_text::text::write_chunk;
+use runshow_text::text::{Chunk, Part, write_chunk};
 use std::io::Write;
 
-#[derive(Clone, Copy)]
-pub enum Outcome {
-    // A run, a position below its count, and how many numbers are asked for, at least one.
-    Part(Run, u64, u64),
-    Told(Notice),
-}
+// The part of a run to be shown, a position below its count and at least one number, or what is told in its place.
+pub type Outcome = Result<Part, Notice>;
 
-// How many numbers were shown, and whether all that was to be printed could be written.
-#[derive(Clone, Copy)]
-pub struct Shown {
-    pub count: u64,
-    pub written: bool,
-}
-
-// Prints what was decided.
-pub fn print_outcome<W: Write, E: Write>(output: &mut W, errors: &mut E, outcome: Outcome) -> Shown
+// Prints what was decided, and tells how many numbers were shown, if all that was to be printed could be written.
+pub fn print_outcome<W: Write, E: Write>(
+    output: &mut W,
+    errors: &mut E,
+    outcome: Outcome,
+) -> Option<u64>
     ensures { ShownPromise (outcome_due outcome) result }
 {
     match outcome {
-        Outcome::Part(run, first, many) => print_part(output, errors, run, first, many),
-        Outcome::Told(notice) => print_notice(output, errors, notice),
+        Ok(part) => print_part(output, errors, part),
+        Err(notice) => print_notice(output, errors, notice),
     }
 }
 
-fn print_notice<W: Write, E: Write>(output: &mut W, errors: &mut E, notice: Notice) -> Shown
+fn print_notice<W: Write, E: Write>(output: &mut W, errors: &mut E, notice: Notice) -> Option<u64>
     ensures { ShownPromise 0 result }
 {
     let mut buf = [0u8; 64];
     let n = write_notice(&mut buf, notice);
-    let written = print(
-        output,
-        errors,
-        &buf[..n],
-        b"runshow: the answer could not be written\n",
-    );
-    Shown { count: 0, written }
+    let complaint = b"runshow: the answer could not be written\n";
+    print(output, errors, &buf[..n], complaint).then_some(0)
 }
 
 // A field has at most 20 digits and byte 10, so 1,024 numbers fit 21,504 bytes.
-fn print_part<W: Write, E: Write>(
-    output: &mut W,
-    errors: &mut E,
-    run: Run,
-    first: u64,
-    many: u64,
-) -> Shown
-    ensures { ShownPromise (part_due run first many) result }
+fn print_part<W: Write, E: Write>(output: &mut W, errors: &mut E, part: Part) -> Option<u64>
+    ensures { ShownPromise (part_due part.run part.first part.many) result }
 {
     let mut numbers = [0u64; 1024];
     let mut buf = [0u8; 21504];
-    print_chunks(output, errors, run, first, many, &mut numbers, &mut buf)
+    print_chunks(output, errors, part, &mut numbers, &mut buf)
 }
 
 // Prints the numbers, a chunk at a time, up to the last one asked for or the run's end, or until they can't be written.
 fn print_chunks<W: Write, E: Write>(
     output: &mut W,
     errors: &mut E,
-    run: Run,
-    first: u64,
-    many: u64,
+    part: Part,
     numbers: &mut [u64],
     buf: &mut [u8],
-) -> Shown
+) -> Option<u64>
     requires numbers_nonzero { 0 < length numbers.old }
     requires numbers_in_bounds { 21 * length numbers.old ≤ length buf.old }
-    ensures { ShownPromise (part_due run first many) result }
+    ensures { ShownPromise (part_due part.run part.first part.many) result }
 {
     let mut shown = 0;
-    while shown < many {
-        let chunk = write_chunk(run, first, many, shown, numbers, buf);
-        let made = chunk.made;
-        let n = chunk.bytes;
+    while shown < part.many {
+        let Chunk { made, bytes } = write_chunk(part, shown, numbers, buf);
         if made == 0 {
-            return Shown {
-                count: shown,
-                written: true,
-            };
+            break;
         }
         let complaint = b"runshow: the numbers could not be written\n";
-        if !print(output, errors, &buf[..n], complaint) {
-            return Shown {
-                count: shown,
-                written: false,
-            };
+        if !print(output, errors, &buf[..bytes], complaint) {
+            return None;
         }
         shown += made as u64;
     }
-    Shown {
-        count: shown,
-        written: true,
-    }
+    Some(shown)
 }

@@ -4,7 +4,6 @@ ghost use Rattle.fields.specs.Codec.{FrontWritten};
 ghost use Rattle.runshow_text.specs.Text.{ChunkPromise, numbers_lines, part_due};
 
 use decimals::field::write_field;
-use refusals::ValueAnswer;
 use remake::filling::fitting;
 use runs::Run;
 
@@ -42,7 +41,7 @@ pub fn write_chunk(part: Part, shown: u64, numbers: &mut [u64], buf: &mut [u8]) 
     requires shown_bound { shown ≤ part_due part.run part.first part.many }
     ensures { ChunkPromise part.run part.first part.many shown (length numbers.old) buf.old buf.new result }
 {
-    let ValueAnswer::Value(n) = remake::remake(part.run, part.first + shown, numbers) else {
+    let Ok(n) = remake::remake(part.run, part.first + shown, numbers) else {
         return Chunk { made: 0, bytes: 0 };
     };
     let made = fitting(n as usize, part.many - shown);

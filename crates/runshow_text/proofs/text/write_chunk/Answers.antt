@@ -14,4 +14,4 @@ write_numbers-requires c =
     (omega (arith, c.requires.numbers_in_bounds, c.remake.auto.numbers))
 
 pub returns : goal.returns
-returns c = chunk_made c.remake.ensures c.in-Value.is refl c.fitting-made.ensures c.write_numbers.ensures
+returns c = chunk_made c.remake.ensures c.in-Ok.is refl c.fitting-made.ensures c.write_numbers.ensures

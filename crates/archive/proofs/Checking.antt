@@ -15,8 +15,8 @@ use Rattle.runs.specs.declared.Run.{Run}
 use Rattle.lines.specs.Line.{line_of}
 use Rattle.lines.specs.ReadLine.{run_in, read_of}
 use Rattle.lines.proofs.Reading.{accepted_line, own_run, own_accepted}
-use Rattle.archive.specs.declared.ArchiveCheck.{ArchiveCheck}
-use Rattle.archive.specs.declared.ArchiveCheck.TheVariants.{Accepted}
+use Rattle.std.specs.Prelude.{Result, Ok}
+use Rattle.archive.specs.declared.LineRefusal.{LineRefusal}
 use Rattle.archive.specs.Archive.{lines_of, runs_in, archive_of, AllAccepted, IsArchive, numbered}
 use Rattle.archive.specs.Check.{CheckReply, refused_at, plain_check, is_among, line_refusal, first_refused, check_of, Accepts, CheckPromise}
 use Rattle.archive.proofs.Splitting.{joined, lines_joined, lines_archive}
@@ -191,12 +191,12 @@ check_accepts bytes = record { archive = archive; others = others }
         )
 
 -- the promise of an answer that is known
-pub check_as : {bytes : List ℕ} {a : ArchiveCheck} (b : ArchiveCheck) → a ≡ b → CheckPromise bytes (plain_check a) →
+pub check_as : {bytes : List ℕ} {a : Result (Unit {0}) LineRefusal} (b : Result (Unit {0}) LineRefusal) → a ≡ b → CheckPromise bytes (plain_check a) →
     plain_check b ≡ check_of bytes
 check_as b e p = ap plain_check (sym e) ∙ p.equals
 
-pub check_accepted : {bytes : List ℕ} {a : ArchiveCheck} → a ≡ Accepted → CheckPromise bytes (plain_check a) → (check_of bytes).refusal ≡ 0
-check_accepted e p = ap (λ (r : CheckReply). r.refusal) (sym (check_as Accepted e p))
+pub check_accepted : {bytes : List ℕ} {a : Result (Unit {0}) LineRefusal} → a ≡ Ok tt → CheckPromise bytes (plain_check a) → (check_of bytes).refusal ≡ 0
+check_accepted e p = ap (λ (r : CheckReply). r.refusal) (sym (check_as (Ok tt) e p))
 
 -- A walk behind the check.
 abbrev pub refusing : ℕ → Unit {0} → List (List ℕ) → CheckReply

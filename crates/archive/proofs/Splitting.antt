@@ -4,13 +4,17 @@ use mathlib.Core.Path.{◌≡◌, refl, sym, ap, ap₂, ◌∙◌}
 use mathlib.Core.Logic.{by_cases}
 use mathlib.Core.List.{List, [], ◌∷◌, ◌++◌, append_assoc, map}
 use mathlib.Core.List.Memᴰ
-use Prim.Native.Nat.{ℕ, suc, ◌+◌, ◌-◌, ◌≤◌, ◌<◌}
+use Prim.Native.Nat.{ℕ, ◌+◌, ◌-◌, ◌≤◌, ◌<◌, min}
+use mathlib.Core.Bool.{Bool, true, false, cond}
+use lib.Dec.{ltb}
+use Rattle.std.specs.Prelude.{position, Some, None, ◌==◌}
+use Rattle.std.specs.List.{position_or_len}
+use Rattle.std.proofs.lemmas.Option.{cond_some, none-some}
 use native.Mathlib.Decide.{ℕ_discrete}
-use native.Mathlib.Numerals.{add-one}
 use native.Mathlib.Omega.{arith}
-use lib.ListN.{length, take, drop, get_or, length-append, length-drop}
-use lib.Seq.{drop-cons, drop-drop, take-append_seam, drop-append_seam}
-use borrow.Author.Tests.{eq-eqb, ne_eqb}
+use lib.ListN.{length, take, drop, length-append, length-drop}
+use lib.Seq.{drop-drop, take-append_seam, drop-append_seam}
+use borrow.Author.Tests.{eq-eqb, ne_eqb, ltb-true, ltb-false}
 use Rattle.decimals.specs.Digits.{digits_of}
 use Rattle.fields.specs.Line.{fields_line}
 use Rattle.decimals.proofs.Digits.{AllDigits, digits_bytes}
@@ -30,13 +34,30 @@ part_goes_on : {b : ℕ} (bytes : List ℕ) → (b ≡ 10 → ⊥) → first_par
 unfolding first_part
 part_goes_on {b} bytes d = rw (ne_eqb b 10 d)
 
--- the same from index i on
-pub part_ends_at : (bytes : List ℕ) (i : ℕ) → i < length bytes → get_or bytes i 0 ≡ 10 → length (first_part (drop i bytes)) ≡ 1
-part_ends_at bytes i l e = rw (drop-cons bytes i 0 l, part_ends (drop (suc i) bytes) e)
+-- it ends behind the first byte 10, or with the bytes
+part_size : (bytes : List ℕ) → length (first_part bytes) ≡ min (position_or_len (λ b. b == 10) bytes + 1) (length bytes)
+unfolding first_part
+part_size [] = omega arith
+part_size (b ∷ bytes) = go (part_size bytes) (b == 10) refl
+  where
+    go : length (first_part bytes) ≡ min (position_or_len (λ b. b == 10) bytes + 1) (length bytes) → (t : Bool) → (b == 10) ≡ t → length (first_part (b ∷ bytes)) ≡ min (position_or_len (λ b. b == 10) (b ∷ bytes) + 1) (length (b ∷ bytes))
+    go rest true e = rw e (omega arith)
+    go rest false e = rw e (omega (arith, rest))
 
-pub part_goes_on_at : (bytes : List ℕ) (i : ℕ) → i < length bytes → (get_or bytes i 0 ≡ 10 → ⊥) →
-    length (first_part (drop i bytes)) ≡ suc (length (first_part (drop (i + 1) bytes)))
-part_goes_on_at bytes i l d = rw (add-one i, drop-cons bytes i 0 l, part_goes_on (drop (suc i) bytes) d)
+pub part_ends_at : (bytes : List ℕ) {i : ℕ} → position (λ b. b == 10) bytes ≡ Some i → length (first_part bytes) ≡ i + 1
+part_ends_at bytes {i} e =
+    let at = cond_some _ _ _ e in
+    omega (arith, part_size bytes, ltb-true _ _ at.0, at.1)
+
+pub part_open : (bytes : List ℕ) → position (λ b. b == 10) bytes ≡ None → length (first_part bytes) ≡ length bytes
+part_open bytes e = go (ltb at (length bytes)) refl e
+  where
+    at : ℕ
+    at = position_or_len (λ b. b == 10) bytes
+
+    go : (t : Bool) → ltb at (length bytes) ≡ t → cond t (Some at) None ≡ None → length (first_part bytes) ≡ length bytes
+    go true l e = absurd (none-some at (sym e))
+    go false l e = omega (arith, part_size bytes, ltb-false _ _ l)
 
 -- the part and what follows it are the bytes
 part_split : (bytes : List ℕ) → bytes ≡ first_part bytes ++ drop (length (first_part bytes)) bytes

@@ -1,11 +1,10 @@
 -- The check of an archive: 1, then line by line (SCOPE 5.2, 6.17).
-use Rattle.std.specs.Prelude.{◌≡◌, Bool, true, false, cond, ◌||◌, List, [], ◌∷◌, ℕ, zero, suc, ltb, length}
+use Rattle.std.specs.Prelude.{◌≡◌, Bool, true, false, cond, ◌||◌, List, [], ◌∷◌, ℕ, zero, suc, ltb, length, Result, Ok, Err}
 use Rattle.refusals.specs.Refusals.{number_of, or_else}
 use Rattle.fields.specs.Line.{same_bytes}
 use Rattle.runs.specs.declared.Run.{Run}
 use Rattle.lines.specs.ReadLine.{read_of}
-use Rattle.archive.specs.declared.ArchiveCheck.{ArchiveCheck}
-use Rattle.archive.specs.declared.ArchiveCheck.TheVariants.{Accepted, Refused}
+use Rattle.archive.specs.declared.LineRefusal.{LineRefusal}
 use Rattle.archive.specs.Archive.{lines_of, runs_in, Twin, IsArchive}
 
 -- The number and the line of an archive's refusal, both 0 where it is accepted.
@@ -17,9 +16,9 @@ abbrev pub refused_at : ℕ → ℕ → CheckReply
 refused_at n line = record { refusal = n; line = line }
 
 -- What an answer says.
-abbrev pub plain_check : ArchiveCheck → CheckReply
-plain_check Accepted = refused_at 0 0
-plain_check (Refused r line) = refused_at (number_of r) line
+abbrev pub plain_check : Result (Unit {0}) LineRefusal → CheckReply
+plain_check (Ok _) = refused_at 0 0
+plain_check (Err r) = refused_at (number_of r.refusal) r.line
 
 -- The line is one of these, byte by byte.
 unfoldable pub is_among : List ℕ → List (List ℕ) → Bool

@@ -1,80 +1,83 @@
 // The check of an archive that is not too long: each line is read, and compared with those before it in its slot.
-ghost use Rattle.std.specs.Prelude.{◌≡◌, [], ◌-◌, ◌≤◌, length, take, drop};
+ghost use Rattle.std.specs.Prelude.{◌≡◌, [], ◌-◌, ◌*◌, ◌<◌, ◌≤◌, length, take, drop, MatchResult};
 ghost use Rattle.chains.specs.Chains.{Tables};
+ghost use Rattle.refusals.specs.Refusals.{number_of};
 ghost use Rattle.lines.specs.Line.{line_of};
+ghost use Rattle.lines.specs.ReadLine.{ReadPromise, accepted_run, refused_run};
 ghost use Rattle.archive.specs.Chained.{Chained, SeenLine};
 ghost use Rattle.archive.specs.Check.{CheckPromise, plain_check};
 
-use crate::ArchiveCheck;
+use crate::LineRefusal;
 use crate::parts::part_end;
-use chains::chains::seen_before;
+use chains::chains::Chains;
 use chains::hash::slot;
-use lines::RunAnswer;
 use lines::numbers::numbers_of;
+use lines::read_line;
 use refusals::Refusal;
 use runs::Run;
 
 // Whether the line of that run, from `at` to `end`, equals one in the chains. It is added to them.
-pub fn line_seen(
-    archive: &[u8],
-    at: usize,
-    end: usize,
-    run: Run,
-    head: &mut [u16],
-    next: &mut [u16],
-) -> bool
+pub fn line_seen(archive: &[u8], at: usize, end: usize, run: Run, chains: &mut Chains<'_>) -> bool
     requires archive_len_bound { length archive.now ≤ 65536 }
     requires at_le_end { at ≤ end }
     requires end_in_bounds { end ≤ length archive.now }
     requires archive_value { take (end - at) (drop at archive.now) ≡ line_of run }
-    requires tables { Tables archive.now at head.old next.old }
-    ensures { SeenLine archive.now at end head.old next.old head.new next.new result }
+    requires tables { Tables archive.now at chains.old.head.now chains.old.next.now }
+    ensures seen { SeenLine archive.now at end chains.old.head.now chains.old.next.now chains.new.head.now chains.new.next.now result }
+    ensures same_head { chains.new.head.ghost_name ≡ chains.old.head.ghost_name }
+    ensures same_next { chains.new.next.ghost_name ≡ chains.old.next.ghost_name }
 {
     let numbers = numbers_of(run);
-    let slot = slot(&numbers, head.len());
-    seen_before(archive, at, end, slot, head, next)
+    let slot = slot(&numbers, chains.head.len());
+    chains.seen_before(archive, at, end, slot)
+}
+
+// The run of a line, or why it is refused and where.
+fn read_numbered(bytes: &[u8], line: u64) -> Result<Run, LineRefusal>
+    ensures { MatchResult result (λ run. ReadPromise bytes.now (accepted_run run)) (λ e. ReadPromise bytes.now (refused_run (number_of e.refusal)) × (e.line ≡ line)) }
+{
+    read_line(bytes).map_err(|refusal| LineRefusal { refusal, line })
 }
 
 // The lines one after the other, from empty chains on.
-pub fn lines_checked(archive: &[u8], head: &mut [u16], next: &mut [u16]) -> ArchiveCheck
+pub fn lines_checked(archive: &[u8], chains: &mut Chains<'_>) -> Result<(), LineRefusal>
     requires archive_len_bound { length archive.now ≤ 65536 }
-    requires chained { Chained archive.now 0 head.old next.old [] }
+    requires chained { Chained archive.now 0 chains.old.head.now chains.old.next.now [] }
     ensures { CheckPromise archive.now (plain_check result) }
 {
     let mut at = 0;
-    let mut number = 1;
+    let mut line = 1;
     while at < archive.len() {
         let end = part_end(archive, at);
-        match lines::read_line(&archive[at..end]) {
-            RunAnswer::Refused(refusal) => return ArchiveCheck::Refused(refusal, number),
-            RunAnswer::Accepted(run) => {
-                if line_seen(archive, at, end, run, head, next) {
-                    return ArchiveCheck::Refused(Refusal::DuplicateLine, number);
-                }
-                at = end;
-                number += 1;
-            }
+        let run = read_numbered(&archive[at..end], line)?;
+        if line_seen(archive, at, end, run, chains) {
+            return Err(LineRefusal {
+                refusal: Refusal::DuplicateLine,
+                line,
+            });
         }
+        at = end;
+        line += 1;
     }
-    ArchiveCheck::Accepted
+    Ok(())
 }
 
-// Few slots for a short archive: to clear more would take longer than its check. There is an entry for every 12 bytes.
-pub fn short_checked(archive: &[u8]) -> ArchiveCheck
-    requires { length archive.now ≤ 1024 }
+// The lines by chains of SLOTS slots with an entry for every 12 bytes.
+pub fn checked_with<const SLOTS: usize, const ENTRIES: usize>(
+    archive: &[u8],
+) -> Result<(), LineRefusal>
+    requires slots_bound { (0 < SLOTS) × (SLOTS ≤ 65536) }
+    requires archive_len_bound { length archive.now ≤ 65536 }
+    requires entries_bound { (length archive.now ≤ 12 * ENTRIES) × (ENTRIES ≤ 65536) }
     ensures { CheckPromise archive.now (plain_check result) }
 {
-    let mut head = [0u16; 64];
-    let mut next = [0u16; 86];
-    lines_checked(archive, &mut head, &mut next)
-}
-
-// As many slots as a full archive has lines of 16 bytes, and an entry for every 12 bytes.
-pub fn long_checked(archive: &[u8]) -> ArchiveCheck
-    requires { length archive.now ≤ 65536 }
-    ensures { CheckPromise archive.now (plain_check result) }
-{
-    let mut head = [0u16; 4096];
-    let mut next = [0u16; 5462];
-    lines_checked(archive, &mut head, &mut next)
+    let mut head = [0u16; SLOTS];
+    let mut next = [0u16; ENTRIES];
+    lines_checked(
+        archive,
+        &mut Chains {
+            head: &mut head,
+            next: &mut next,
+        },
+    )
 }

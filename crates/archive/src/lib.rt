@@ -10,21 +10,26 @@ use refusals::Refusal;
 pub mod checks;
 pub mod parts;
 
+// Why an archive declines, and in which line: 0 beside 1 and 10.
 #[derive(Clone, Copy)]
-pub enum ArchiveCheck {
-    Accepted,
-    Refused(Refusal, u64),
+pub struct LineRefusal {
+    pub refusal: Refusal,
+    pub line: u64,
 }
 
-// The whole archive: its length, then its lines.
-pub fn checked(archive: &[u8]) -> ArchiveCheck
+// The whole archive: its length, then its lines. Few slots for a short one: to clear more would take longer than its check.
+// For any other as many slots as a full archive has lines of 16 bytes.
+pub fn checked(archive: &[u8]) -> Result<(), LineRefusal>
     ensures { CheckPromise archive.now (plain_check result) }
 {
     if 65536 < archive.len() {
-        return ArchiveCheck::Refused(Refusal::ArchiveTooLong, 0);
+        return Err(LineRefusal {
+            refusal: Refusal::ArchiveTooLong,
+            line: 0,
+        });
     }
     if archive.len() <= 1024 {
-        return checks::short_checked(archive);
+        return checks::checked_with::<64, 86>(archive);
     }
-    checks::long_checked(archive)
+    checks::checked_with::<4096, 5462>(archive)
 }

@@ -1,5 +1,5 @@
 // The parts of an archive, each up to its byte 10, and the runs in them.
-ghost use Rattle.std.specs.Prelude.{◌≡◌, ◌+◌, ◌<◌, length, drop};
+ghost use Rattle.std.specs.Prelude.{◌≡◌, ◌+◌, ◌<◌, ◌≤◌, ◌==◌, length, drop, position};
 ghost use Rattle.lines.specs.ReadLine.{read_of};
 ghost use Rattle.archive.specs.Parts.{first_part, LineRun};
 
@@ -13,19 +13,28 @@ pub struct NextRun {
     pub end: usize,
 }
 
-// Where the part that starts at `at` ends: behind its byte 10, or at the end of the bytes.
+// Where the first byte 10 stands.
+fn delimiter_in(bytes: &[u8]) -> Option<usize>
+    ensures { result ≡ position (λ b. b == 10) bytes.now }
+{
+    bytes.iter().position(|b| *b == 10)
+}
+
+// How long the first part is: up to its byte 10, or all bytes.
+#[tactic(auto, using(crate::proofs::Splitting::part_ends_at, crate::proofs::Splitting::part_open, crate::proofs::Splitting::part_length))]
+fn part_len(bytes: &[u8]) -> usize
+    ensures is { result ≡ length (first_part bytes.now) }
+    ensures bound { result ≤ length bytes.now }
+{
+    delimiter_in(bytes).map_or(bytes.len(), |i| i + 1)
+}
+
+// Where the part that starts at `at` ends.
 pub fn part_end(bytes: &[u8], at: usize) -> usize
     requires { at < length bytes.now }
     ensures { result ≡ at + length (first_part (drop at bytes.now)) }
 {
-    let mut i = at;
-    while i < bytes.len() {
-        if bytes[i] == 10 {
-            return i + 1;
-        }
-        i += 1;
-    }
-    i
+    at + part_len(&bytes[at..])
 }
 
 // The run of the part that starts at `at`, which is an accepted line.

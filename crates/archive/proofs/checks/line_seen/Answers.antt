@@ -36,9 +36,9 @@ seen_before-requires c =
       tables = pre.tables;
     }
 
-pub returns : goal.returns
-returns c =
+pub returns-clause-seen : goal.returns-clause-seen
+returns-clause-seen c =
     let pre = c.requires in
     let slot = own_slot c.args.run _ _ _ c.slot-slot.ensures c.numbers_of-numbers.ensures in
     chained_next c.args.run slot (slot_below c.args.run _ _ slot pre.tables.slots.0) pre.at_le_end pre.end_in_bounds pre.archive_value
-    c.seen_before.ensures
+    c.seen_before.ensures.seen

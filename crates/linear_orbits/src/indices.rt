@@ -11,7 +11,6 @@ use generator::Generator;
 use generator::linear::once;
 use search::{Settled, settle};
 use sequences::Indices;
-use std::num::wrapping_sub_u64;
 use words::bits::{exceeds, low_bits, ones};
 
 // What the search up the bit places settles of the lowest `limit`, for an odd multiplier.
@@ -20,7 +19,7 @@ fn settled(g: Generator, y: u64, limit: u64) -> Settled
     ensures { Settles (element g) y limit result.places result.index result.exponent }
 {
     settle(
-        wrapping_sub_u64(g.seed, y),
+        g.seed.wrapping_sub(y),
         drift_from(g, y),
         g.multiplier,
         limit,
@@ -33,8 +32,7 @@ fn by_places(g: Generator, places: u64, y: u64) -> Indices
     ensures { IndicesAre (low places (element g)) y (modulus g) result }
 {
     let found = settled(g, y, places);
-    let reached = found.places;
-    if reached < places {
+    if found.places < places {
         return Indices::Never;
     }
     Indices::Every {
@@ -44,6 +42,7 @@ fn by_places(g: Generator, places: u64, y: u64) -> Indices
 }
 
 // The low places of the element one step after that whose low places are x.
+#[tactic(auto, using(crate::proofs::LinearIndices::low_once))]
 fn low_next(g: Generator, places: u64, x: u64) -> u64
     requires { (1 ≤ places) × (places ≤ 64) }
     ensures { result ≡ (g.multiplier * x + g.increment) % 2 ^ places }
@@ -58,8 +57,7 @@ fn by_steps(g: Generator, places: u64, y: u64) -> Indices
     ensures { IndicesAre (low places (element g)) y (modulus g) result }
 {
     let mut x = low_bits(g.seed, places);
-    let mut i = 0;
-    while i <= places {
+    for i in 0..=places {
         let after = low_next(g, places, x);
         if x == y {
             if after == y {
@@ -68,7 +66,6 @@ fn by_steps(g: Generator, places: u64, y: u64) -> Indices
             return Indices::Once(i);
         }
         x = after;
-        i += 1;
     }
     Indices::Never
 }

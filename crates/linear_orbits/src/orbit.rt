@@ -15,6 +15,7 @@ use words::{alpha, first_difference};
 
 // The preperiod, for an even multiplier. Neighbours first differ v places higher at each step, v the zeros below the
 // multiplier's lowest one bit, until all n places agree.
+#[tactic(auto, using(crate::proofs::LinearOrbits::even_orbit, crate::proofs::LinearOrbits::resting_orbit))]
 pub fn preperiod(g: Generator) -> u64
     requires { (Linear g) × (g.multiplier % 2 ≡ 0) }
     ensures { (result ≤ g.width) × IsOrbit (element g) result 1 }
@@ -29,6 +30,7 @@ pub fn preperiod(g: Generator) -> u64
 }
 
 // The orbit, for every multiplier. The period of an odd one is read off how often it doubles up the bit places.
+#[tactic(auto, using(crate::proofs::LinearOrbits::even_is, crate::proofs::LinearOrbits::odd_is, crate::proofs::Begins::doublings_orbit))]
 pub fn orbit(g: Generator) -> Orbit
     requires { Linear g }
     ensures { OrbitIs (element g) (modulus g) result }

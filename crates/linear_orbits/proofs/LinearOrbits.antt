@@ -1,6 +1,9 @@
 -- The orbit of a linear generator: with an odd multiplier it is periodic from the start, with an even one it comes to rest.
 -- Either way there is room for it below the modulus.
-use Rattle.std.proofs.Common.{◌≡◌, ℕ, suc, ◌+◌, ◌-◌, ◌/◌, ◌%◌, ◌^◌, ◌<◌, ◌≤◌, sym, ap, ◌∙◌, subst, ⊎_elim, le_trans, le_refl, le_of_lt, arith, pow_pos, pow_mono}
+use Rattle.std.proofs.Common.{◌≡◌, ℕ, suc, ◌+◌, ◌-◌, ◌/◌, ◌%◌, ◌^◌, ◌<◌, ◌≤◌, sym, ap, ◌∙◌, subst, ⊎_elim, le_trans, le_refl, le_of_lt, arith, pow_pos, pow_mono, min, lt_of_not-le}
+use native.Mathlib.Decide.{dec_le}
+use Rattle.std.proofs.lemmas.Grind.{div_ceil_times}
+use Rattle.std.proofs.Math.Nat.{div-eq_of_lt-le}
 use Rattle.words.specs.Alpha.{Alpha, FirstDifference}
 use Rattle.words.proofs.Congruence.{same_sym, same_trans, same_lower, mod_two}
 use Rattle.sequences.specs.Orbit.{IsOrbit, OrbitIs}
@@ -21,6 +24,11 @@ use Rattle.sequences.proofs.Orbits.{Follows, orbit_only}
 use Rattle.sequences.proofs.LowPlaces.{contracting_follows, isometric_follows, low_isometric, low_reduced, low_rest}
 use Rattle.words.proofs.PowersOfTwo.{lt_two_pow}
 use Rattle.sequences.specs.declared.Orbit.{Orbit}
+
+-- a quotient rounded up, in two ways
+rounded_up : (a : ℕ) {b : ℕ} → 0 < b → (a + b - 1) / b ≡ a / b + min 1 (a % b)
+rounded_up a {b} h =
+    let t = div_ceil_times a b h in div-eq_of_lt-le b (omega (arith, t.1)) (omega (arith, t.0))
 
 -- with an even multiplier: element 1 and the seed first differ at a place w below n, or not at all
 module _ {g : Generator} {once : Affine} {v w next : ℕ} (pre : (Linear g) × (g.multiplier % 2 ≡ 0))
@@ -43,21 +51,36 @@ module _ {g : Generator} {once : Affine} {v w next : ℕ} (pre : (Linear g) × (
       d.above m (le_trans l pre.0.width_high)
       ((same_trans (same_lower m l (one_held pre.0 eo en)) a.places).same ∙ ap (λ (u : ℕ). u % 2 ^ m) (element_start g))
 
-  pub even_orbit : w < g.width →
-      ((g.width - w + v - 1) / v ≤ g.width) × IsOrbit (element g) ((g.width - w + v - 1) / v) 1
-  even_orbit l =
+  resting_orbit : g.width ≤ w → IsOrbit (element g) 0 1
+  resting_orbit l =
+      (rest_orbit (scaling_contracting sc) (reduced pre.0)
+      (record {
+        rest = reduced_eq (reduced pre.0) 1 0 (one_agrees (le_refl g.width) l);
+        moves = λ i h. absurd (omega arith);
+      })).1
+
+  moving_orbit : w < g.width → ((g.width - w + v - 1) / v ≤ g.width) × IsOrbit (element g) ((g.width - w + v - 1) / v) 1
+  moving_orbit l =
       rest_orbit (scaling_contracting sc) (reduced pre.0)
       (scaled_rests sc l
       (record { agree = one_agrees (le_of_lt l) (le_refl w); differ = λ a. omega (arith, one_reach l a) })
       (reduced pre.0))
 
-  pub resting_orbit : g.width ≤ w → (0 ≤ g.width) × IsOrbit (element g) 0 1
-  resting_orbit l =
-      rest_orbit (scaling_contracting sc) (reduced pre.0)
-      (record {
-        rest = reduced_eq (reduced pre.0) 1 0 (one_agrees (le_refl g.width) l);
-        moves = λ i h. absurd (omega arith);
-      })
+  -- at rest after the places left to agree, over v, rounded up
+  pub even_orbit : {d t : ℕ} → d ≡ g.width - w → t ≡ d / v + min 1 (d % v) → (t ≤ g.width) × IsOrbit (element g) t 1
+  even_orbit {d} {t} left over = elim (dec_le g.width w) [ yes l ↦ at_rest l | no f ↦ moves (lt_of_not-le f) ]
+    where
+      e : t ≡ (g.width - w) / v + min 1 ((g.width - w) % v)
+      e = over ∙ ap (λ (k : ℕ). k / v + min 1 (k % v)) left
+
+      up : (g.width - w + v - 1) / v ≡ t
+      up = rounded_up (g.width - w) sc.positive ∙ sym e
+
+      moves : w < g.width → (t ≤ g.width) × IsOrbit (element g) t 1
+      moves l = rw (sym up) (moving_orbit l)
+
+      at_rest : g.width ≤ w → (t ≤ g.width) × IsOrbit (element g) t 1
+      at_rest l = let z : t ≡ 0 = e ∙ rw (let q : g.width - w ≡ 0 = omega arith in q) (omega arith) in rw z (omega arith, resting_orbit l)
 
 -- room below the modulus for both
 module _ {g : Generator} (lin : Linear g) where

@@ -15,18 +15,12 @@ use words::{alpha, first_difference};
 
 // The preperiod, for an even multiplier. Neighbours first differ v places higher at each step, v the zeros below the
 // multiplier's lowest one bit, until all n places agree.
-#[tactic(auto, using(crate::proofs::LinearOrbits::even_orbit, crate::proofs::LinearOrbits::resting_orbit))]
 pub fn preperiod(g: Generator) -> u64
     requires { (Linear g) × (g.multiplier % 2 ≡ 0) }
     ensures { (result ≤ g.width) × IsOrbit (element g) result 1 }
 {
-    let n = g.width;
     let place = first_difference(value_at(once(g), g.seed), g.seed);
-    let v = alpha(g.multiplier);
-    if n <= place {
-        return 0;
-    }
-    (n - place + v - 1) / v
+    g.width.saturating_sub(place).div_ceil(alpha(g.multiplier))
 }
 
 // The orbit, for every multiplier. The period of an odd one is read off how often it doubles up the bit places.

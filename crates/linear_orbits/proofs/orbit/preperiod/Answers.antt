@@ -1,8 +1,8 @@
 -- `linear_orbits::orbit::preperiod` meets its contract.
-use Rattle.linear_orbits.proofs.LinearOrbits.{resting_orbit}
+use Rattle.linear_orbits.proofs.LinearOrbits.{even_orbit}
 use Rattle.linear_orbits.proofs.orbit.preperiod.Goals as goal
 
-pub returns-then-n-place : goal.returns-then-n-place
-returns-then-n-place c =
-    resting_orbit c.requires c.alpha-v.ensures c.once.ensures c.value_at.ensures
-    c.first_difference-place.ensures c.if-n-place.true
+pub returns : goal.returns
+returns c =
+    even_orbit c.requires c.alpha.ensures c.once.ensures c.value_at.ensures
+    c.first_difference-place.ensures c.saturating_sub.ensures c.div_ceil.ensures

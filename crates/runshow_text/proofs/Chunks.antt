@@ -158,12 +158,3 @@ chunk_fits m numbers below room =
         let in_front : i < m = omega (arith, length-take m numbers) in
         let same = get_or-take m numbers i 0 in_front in
         omega (arith, same, below i (omega (arith, length-take m numbers)))
-
--- What is due is within what is asked for, and its end is a 64-bit number, as the end of the run is.
-pub part_fits : (run : Run) (first many : ℕ) → first < 2 ^ 64 →
-    (part_due run first many ≤ many) × (first + part_due run first many < 2 ^ 64)
-part_fits run first many f = go (run_refusal run) refl
-  where
-    go : (n : ℕ) → run_refusal run ≡ n → (due_of n run first many ≤ many) × (first + due_of n run first many < 2 ^ 64)
-    go zero z = (omega arith, omega (arith, (valid_run run z).end))
-    go (suc n) z = (omega arith, omega arith)

@@ -6,10 +6,9 @@ use runshow_io::response::respond;
 use runshow_output::output::print_outcome;
 
 fn main(rt: HostRuntime) {
-    let mut input = [0u8; 64];
-    let last = read_input(&rt, &mut input);
-    let mut bytes = [0u8; 65537];
-    let response = respond(&rt, &input, last, &mut bytes);
-    let outcome = response.outcome;
-    print_outcome(&mut rt.stdout(), &mut rt.stderr(), outcome);
+    let mut question = [0u8; 64];
+    let input = read_input(&rt, &mut question);
+    let mut archive = [0u8; 65537];
+    let response = respond(&rt, input, &mut archive);
+    print_outcome(&mut rt.stdout(), &mut rt.stderr(), response.outcome);
 }

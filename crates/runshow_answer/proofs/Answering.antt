@@ -21,30 +21,31 @@ use Rattle.archive.specs.Check.{CheckReply, refused_at, plain_check, check_of, C
 use Rattle.archive_line.specs.Line.{line_at, PartPromise}
 use Rattle.archive.proofs.Checking.{check_accepted, long_check}
 use Rattle.notices.specs.declared.notice.Notice.TheVariants.{NotFound, Refused}
-use Rattle.runshow_output.specs.declared.output.Outcome.{Outcome}
-use Rattle.runshow_output.specs.declared.output.Outcome.TheVariants.{Part, Told}
+use Rattle.std.proofs.Common.{Result, Ok, Err}
+use Rattle.notices.specs.declared.notice.Notice.{Notice}
+use Rattle.runshow_text.specs.declared.text.Part.{Part}
 use Rattle.runshow_answer.specs.Decision.{part_of_run, outcome_of}
 
 -- The part of a run.
 module _ (run : Run) (first many : ℕ) where
-  pub run_behind : run.count ≤ first → Told NotFound ≡ part_of_run run first many
+  pub run_behind : run.count ≤ first → Err NotFound ≡ part_of_run run first many
   run_behind l = rw (le-ltb first run.count l)
 
-  pub run_none_asked : first < run.count → many ≡ 0 → Told NotFound ≡ part_of_run run first many
+  pub run_none_asked : first < run.count → many ≡ 0 → Err NotFound ≡ part_of_run run first many
   run_none_asked l e = rw (lt-ltb first run.count l, eq-eqb many 0 e)
 
-  pub run_part : first < run.count → (many ≡ 0 → ⊥) → Part run first many ≡ part_of_run run first many
+  pub run_part : first < run.count → (many ≡ 0 → ⊥) → Ok (record { run = run; first = first; many = many }) ≡ part_of_run run first many
   run_part l d = rw (lt-ltb first run.count l, ne_eqb many 0 d)
 
 -- The archive is refused.
 outcome_declined : (bytes : List ℕ) {n at : ℕ} (line first many : ℕ) → check_of bytes ≡ refused_at (suc n) at →
-    Told (Refused (suc n) at) ≡ outcome_of bytes line first many
+    Err (Refused (suc n) at) ≡ outcome_of bytes line first many
 unfolding outcome_of
 outcome_declined bytes {n} line first many e =
     let number = ap (λ (c : CheckReply). c.refusal) e in
-    rw (number, outcome_of) (ap (λ (k : ℕ). Told (Refused (suc n) k)) (sym (ap (λ (c : CheckReply). c.line) e)))
+    rw (number, outcome_of) (ap (λ (k : ℕ). Err (Refused (suc n) k)) (sym (ap (λ (c : CheckReply). c.line) e)))
 
-pub too_long : (line first many : ℕ) (bytes : List ℕ) → 65536 < length bytes → outcome_of bytes line first many ≡ Told (Refused 1 0)
+pub too_long : (line first many : ℕ) (bytes : List ℕ) → 65537 ≤ length bytes → outcome_of bytes line first many ≡ Err (Refused 1 0)
 too_long line first many bytes l = sym (outcome_declined bytes line first many (long_check bytes l))
 
 -- The empty line reads as the run of zeros.
@@ -54,10 +55,10 @@ empty_run = refl
 
 module _ {bytes : List ℕ} {check : ArchiveCheck} (p : CheckPromise bytes (plain_check check)) (line first many : ℕ) where
   pub answer_refused : {x : Refusal} {n at : ℕ} → check ≡ verdict.Refused x at → n ≡ number_of x →
-      Told (Refused n at) ≡ outcome_of bytes line first many
+      Err (Refused n at) ≡ outcome_of bytes line first many
   answer_refused {x} {n} {at} e same =
       let k = number_suc x in
-      ap (λ (m : ℕ). Told (Refused m at)) (same ∙ k.1)
+      ap (λ (m : ℕ). Err (Refused m at)) (same ∙ k.1)
       ∙ outcome_declined bytes line first many
       (sym p.equals ∙ ap (λ (c : ArchiveCheck). plain_check c) e ∙ ap (λ (m : ℕ). refused_at m at) k.1)
 
@@ -67,12 +68,12 @@ module _ {bytes : List ℕ} {check : ArchiveCheck} (p : CheckPromise bytes (plai
     accepted = let z = check_accepted e p in rw (z, outcome_of)
 
     -- the line is not there, or it has this run
-    pub answer_none : {part : LinePart} → PartPromise bytes line part → part.length ≡ 0 → Told NotFound ≡ outcome_of bytes line first many
+    pub answer_none : {part : LinePart} → PartPromise bytes line part → part.length ≡ 0 → Err NotFound ≡ outcome_of bytes line first many
     answer_none {part} at z =
         run_behind no_run first many (omega arith)
         ∙ ap (λ (run : Run). part_of_run run first many) (sym (ap (λ (bs : List ℕ). (read_of bs).run) (part_none part at z) ∙ empty_run))
         ∙ accepted
 
-    pub answer_part : {run : Run} {outcome : Outcome} → run ≡ (read_of (line_at bytes line)).run → outcome ≡ part_of_run run first many →
+    pub answer_part : {run : Run} {outcome : Result Part Notice} → run ≡ (read_of (line_at bytes line)).run → outcome ≡ part_of_run run first many →
         outcome ≡ outcome_of bytes line first many
     answer_part same is = is ∙ ap (λ (run : Run). part_of_run run first many) same ∙ accepted

@@ -15,8 +15,9 @@ use Rattle.archive.specs.Check.{is_among, first_refused, check_of}
 use Rattle.archive_line.specs.Line.{line_at}
 use Rattle.notices.specs.declared.notice.Notice.TheVariants.{NotFound, Refused, BadQuestion, Unread}
 use Rattle.archive_io.specs.Source.{Source, holds, unreadable}
-use Rattle.runshow_output.specs.declared.output.Outcome.{Outcome}
-use Rattle.runshow_output.specs.declared.output.Outcome.TheVariants.{Part, Told}
+use Rattle.std.proofs.Common.{Result, Ok, Err}
+use Rattle.notices.specs.declared.notice.Notice.{Notice}
+use Rattle.runshow_text.specs.declared.text.Part.{Part}
 use Rattle.runshow_answer.specs.Decision.{asked_of, outcome_of, outcome_for}
 
 abbrev second : List ℕ
@@ -26,7 +27,7 @@ abbrev two : Source
 two = holds (ascii "4,5,3,1,0,16\n10,371,995,73,100,8\n")
 
 -- a question, and what the file holds
-abbrev outcome : List ℕ → Source → Outcome
+abbrev outcome : List ℕ → Source → Result Part Notice
 outcome input file = outcome_for (asked_of (holds input)) file
 
 outcomes :
@@ -42,17 +43,17 @@ outcomes :
     ∷ outcome (ascii "2,0\n") unreadable
     ∷ outcome (ascii "2,0,8,1\n") two
     ∷ []
-    ≡ Part (run_of second) 0 8
-    ∷ Part (run_of second) 7 18446744073709551615
-    ∷ Told NotFound
-    ∷ Told NotFound
-    ∷ Told NotFound
-    ∷ Told NotFound
-    ∷ Told (Refused 2 2)
-    ∷ Told (Refused 11 2)
-    ∷ Told Unread
-    ∷ Told BadQuestion
-    ∷ Told BadQuestion
+    ≡ Ok (record { run = run_of second; first = 0; many = 8 })
+    ∷ Ok (record { run = run_of second; first = 7; many = 18446744073709551615 })
+    ∷ Err NotFound
+    ∷ Err NotFound
+    ∷ Err NotFound
+    ∷ Err NotFound
+    ∷ Err (Refused 2 2)
+    ∷ Err (Refused 11 2)
+    ∷ Err Unread
+    ∷ Err BadQuestion
+    ∷ Err BadQuestion
     ∷ []
 unfolding outcome_of line_at numbered check_of first_refused is_among lines_of read_of is_line numbers_from fields_line digits_of last_digits
     run_refusal refusal_of modulus

@@ -1,38 +1,34 @@
 // What the program `runshow` prints: standard input is read before, and the file if there is a question.
-ghost use Rattle.std.specs.Prelude.{◌≤◌, length, take};
+ghost use Rattle.std.specs.Prelude.{◌≤◌, None, length};
 ghost use Rattle.archive_io.specs.Decision.{Answered};
-ghost use Rattle.archive_io.specs.Input.{Filled};
 ghost use Rattle.runshow_answer.specs.Decision.{asked_of, outcome_for};
-ghost use Rattle.runshow_answer.specs.declared.decision.Question.TheVariants.{Malformed};
 
-use archive_io::input::{LastRead, not_read, read_archive};
+use archive_io::input::{Input, not_read, read_archive};
 use notices::notice::Notice;
-use runshow_answer::decision::{Question, asked, decide};
+use runshow_answer::decision::{asked, decide};
 use runshow_output::output::Outcome;
 use std::rt::Files;
 
 // What is to be printed, and what was read of the file, which the promise of `respond` speaks of.
 #[derive(Clone, Copy)]
-pub struct Response {
+pub struct Response<'a> {
     pub outcome: Outcome,
-    pub archive: LastRead,
+    pub archive: Input<'a>,
 }
 
-// The outcome for what was read of standard input. The file is opened, and read into `bytes`, only if there is a question.
-pub fn respond(rt: &impl Files, input: &[u8], last: LastRead, bytes: &mut [u8]) -> Response
-    requires in_bounds { 64 ≤ length input.now }
-    requires filled { Filled input.now last }
-    requires in_bounds_2 { 65537 ≤ length bytes.old }
-    ensures answered { Answered asked_of Malformed outcome_for (take last.reading.n input.now) last.reading.rest (take result.archive.reading.n bytes.new) result.archive.reading.rest result.outcome }
-    ensures filled_2 { Filled bytes.new result.archive }
+// The outcome for what was read of standard input. The file is opened, and read into `buf`, only if there is a question.
+pub fn respond<'a>(rt: &impl Files, input: Input<'_>, buf: &'a mut [u8]) -> Response<'a>
+    requires in_bounds { 64 ≤ input.room }
+    requires in_bounds_2 { 65537 ≤ length buf.old }
+    ensures { Answered asked_of None outcome_for input.entry.bytes.now input.entry.rest result.archive.bytes.now result.archive.rest result.outcome }
 {
-    let Question::Numbers(line, first, many) = asked(input, last) else {
+    let Some(question) = asked(input) else {
         return Response {
-            outcome: Outcome::Told(Notice::BadQuestion),
-            archive: not_read(bytes),
+            outcome: Err(Notice::BadQuestion),
+            archive: not_read(buf),
         };
     };
-    let archive = read_archive(rt, bytes);
-    let outcome = decide(line, first, many, bytes, archive);
+    let archive = read_archive(rt, buf);
+    let outcome = decide(question, archive);
     Response { outcome, archive }
 }

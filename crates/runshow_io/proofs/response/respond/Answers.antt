@@ -1,20 +1,11 @@
 -- `response::respond` meets its contract: there is no question, or the file is read, of which enough is read to decide.
 use mathlib.Core.Path.{refl}
 use Rattle.archive_io.proofs.Deciding.{answered_none, answered}
-use Rattle.runshow_answer.proofs.Deciding.{numbers_some}
-use borrow.Author.Rules.{rules}
+use Rattle.runshow_answer.proofs.Deciding.{question_some}
 use Rattle.runshow_io.proofs.response.respond.Goals as goal
 
 pub returns-in_default : goal.returns-in_default
-returns-in_default g c =
-    record {
-      answered = answered_none c.asked.ensures c.in_default.is (λ file. refl);
-      filled_2 = c.not_read.ensures;
-    }
+returns-in_default g c = answered_none c.asked.ensures c.in_default.is (λ file. refl)
 
 pub returns : goal.returns
-returns g c =
-    record {
-      answered = answered c.asked.ensures c.in-Numbers.is numbers_some c.decide-outcome.ensures;
-      filled_2 = c.read_archive-archive.ensures;
-    }
+returns g c = answered c.asked.ensures c.in-Some.is question_some c.decide-outcome.ensures

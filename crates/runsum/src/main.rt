@@ -6,6 +6,6 @@ use runsum_io::output::print_output;
 
 fn main(rt: HostRuntime) {
     let mut bytes = [0u8; 65537];
-    let last = read_archive(&rt, &mut bytes);
-    print_output(&mut rt.stdout(), &mut rt.stderr(), &bytes, last);
+    let archive = read_archive(&rt, &mut bytes);
+    print_output(&mut rt.stdout(), &mut rt.stderr(), archive);
 }

@@ -2,7 +2,7 @@
 -- file may hold, since an archive of more than 65,536 bytes is refused whatever follows.
 use mathlib.Core.Path.{◌≡◌, refl, sym, ap, ◌∙◌, subst}
 use mathlib.Core.List.{List}
-use Prim.Native.Nat.{ℕ, suc, ◌≤◌, ◌<◌}
+use Prim.Native.Nat.{ℕ, suc, ◌≤◌}
 use native.Mathlib.Omega.{arith}
 use lib.ListN.{length}
 use Rattle.fields.specs.Codec.{FrontWritten}
@@ -18,12 +18,13 @@ use Rattle.summary.specs.Summary.{total_of, summary_given, summary_refused, plai
 use Rattle.archive.proofs.Checking.{check_lines}
 use Rattle.summary.proofs.Summaries.{summary_long, summary_sums}
 use Rattle.archive_io.specs.declared.input.Rest.{Rest}
-use Rattle.archive_io.specs.declared.input.Rest.TheVariants.{Nothing, Unknown, Failed}
+use Rattle.archive_io.specs.declared.input.Rest.TheVariants.{Failed}
+use Rattle.std.proofs.Common.{◌≢◌}
 use Rattle.notices.specs.declared.notice.Notice.TheVariants.{Refused, Unread}
 use Rattle.notices.specs.Notice.{notice_line}
 use Rattle.archive_io.specs.Input.{Enough}
 use Rattle.archive_io.specs.Decision.{Decided}
-use Rattle.archive_io.proofs.Deciding.{source_some, decided_all, decided_front, decided_unread}
+use Rattle.archive_io.proofs.Deciding.{source_some, decided_read, decided_unread}
 use Rattle.fields.proofs.FrontWriting.{front_within}
 use Rattle.runsum_text.specs.Text.{summary_text}
 use Rattle.runsum_io.specs.Output.{output_of, output_for, OutputPromise}
@@ -75,7 +76,7 @@ module _ {bytes : List ℕ} (answer : SummaryAnswer) (p : SummaryPromise bytes (
       w
 
 -- For all that the file may hold.
-output_long : (bytes : List ℕ) → 65536 < length bytes → output_of bytes ≡ notice_line (Refused 1 0)
+output_long : (bytes : List ℕ) → 65537 ≤ length bytes → output_of bytes ≡ notice_line (Refused 1 0)
 output_long bytes l = output_declined bytes (summary_long bytes l)
 
 module _ {archive before after : List ℕ} {rest : Rest} {n : ℕ} where
@@ -84,12 +85,9 @@ module _ {archive before after : List ℕ} {rest : Rest} {n : ℕ} where
   output_decided w d =
       record { written = λ file r. subst (λ (text : List ℕ). FrontWritten text before after n) (d.is file r) w }
 
-  pub output_all : rest ≡ Nothing → FrontWritten (output_of archive) before after n → OutputPromise archive rest before after n
-  output_all t w = output_decided w (decided_all output_for t refl)
-
-  pub output_front : rest ≡ Unknown → Enough 65537 (length archive) rest → FrontWritten (output_of archive) before after n →
-      OutputPromise archive rest before after n
-  output_front t h w = output_decided w (decided_front output_for output_long t h refl)
+  pub output_read : {bytes : List ℕ} {room : ℕ} → (bytes ≡ archive) × (rest ≢ Failed) → Enough room (length archive) rest →
+      65537 ≤ room → FrontWritten (output_of bytes) before after n → OutputPromise archive rest before after n
+  output_read readable full enough w = output_decided w (decided_read output_for output_long readable full enough refl)
 
   pub output_unread : rest ≡ Failed → FrontWritten (notice_line Unread) before after n → OutputPromise archive rest before after n
   output_unread t w = output_decided w (decided_unread output_for t refl)

@@ -1,10 +1,9 @@
 // What the program `runsum` prints, decided by what was read of the file.
-ghost use Rattle.std.specs.Prelude.{◌≤◌, length, take};
+ghost use Rattle.std.specs.Prelude.{◌≤◌, length};
 ghost use Rattle.fields.specs.Codec.{FrontWritten};
-ghost use Rattle.archive_io.specs.Input.{Filled};
 ghost use Rattle.runsum_io.specs.Output.{OutputPromise, output_of};
 
-use archive_io::input::{LastRead, Rest};
+use archive_io::input::Input;
 use archive_io::output::print;
 use notices::notice::{Notice, write_notice};
 use refusals::number;
@@ -13,17 +12,11 @@ use std::io::Write;
 use summary::SummaryAnswer;
 
 // Prints it in one piece.
-pub fn print_output<W: Write, E: Write>(
-    output: &mut W,
-    errors: &mut E,
-    archive: &[u8],
-    last: LastRead,
-)
-    requires in_bounds { 65537 ≤ length archive.now }
-    requires filled { Filled archive.now last }
+pub fn print_output<W: Write, E: Write>(output: &mut W, errors: &mut E, archive: Input<'_>)
+    requires in_bounds { 65537 ≤ archive.room }
 {
     let mut buf = [0u8; 131099];
-    let n = write_output(&mut buf, archive, last);
+    let n = write_output(&mut buf, archive);
     print(
         output,
         errors,
@@ -34,19 +27,14 @@ pub fn print_output<W: Write, E: Write>(
 
 // Writes it from the first byte of the buffer on and answers how many bytes it wrote. An archive has at most 65,536 bytes,
 // so 65,537 show that it is too long; the text has at most twice as many bytes as the archive and 27 more.
-pub fn write_output(buf: &mut [u8], archive: &[u8], last: LastRead) -> usize
+pub fn write_output(buf: &mut [u8], archive: Input<'_>) -> usize
     requires in_bounds { 131099 ≤ length buf.old }
-    requires in_bounds_2 { 65537 ≤ length archive.now }
-    requires filled { Filled archive.now last }
-    ensures { OutputPromise (take last.reading.n archive.now) last.reading.rest buf.old buf.new result }
+    requires in_bounds_2 { 65537 ≤ archive.room }
+    ensures { OutputPromise archive.entry.bytes.now archive.entry.rest buf.old buf.new result }
 {
-    let reading = last.reading;
-    let n = reading.n;
-    let rest = reading.rest;
-    match rest {
-        Rest::Nothing => write_answer(buf, &archive[..n]),
-        Rest::Unknown => write_answer(buf, &archive[..n]),
-        Rest::Failed => write_notice(buf, Notice::Unread),
+    match archive.readable() {
+        Some(bytes) => write_answer(buf, bytes),
+        None => write_notice(buf, Notice::Unread),
     }
 }
 

@@ -1,14 +1,8 @@
 -- `output::print_output` is safe and ends: the buffer has room for what is written, and that is within it.
-use native.Mathlib.Omega.{arith}
 use Rattle.std.proofs.Common.{sym}
 use lib.Seq.{length-take-le}
 use Rattle.runsum_io.proofs.Deciding.{output_within}
-use borrow.Author.Rules.{rules}
 use Rattle.runsum_io.proofs.output.print_output.Goals as goal
-
-pub write_output-n-requires : goal.write_output-n-requires
-write_output-n-requires g c =
-    record { in_bounds = omega arith; in_bounds_2 = c.requires.in_bounds; filled = c.requires.filled }
 
 pub slice_bounds-buf-end : goal.slice_bounds-buf-end
 slice_bounds-buf-end g c = output_within c.write_output-n.ensures

@@ -1,6 +1,5 @@
 -- `output::write_answer` meets its contract: each case is what the function called for it writes.
 use Rattle.runsum_io.proofs.Deciding.{text_asked, text_told, refusal_told}
-use borrow.Author.Rules.{rules}
 use Rattle.runsum_io.proofs.output.write_answer.Goals as goal
 
 pub write_text-requires : goal.write_text-requires

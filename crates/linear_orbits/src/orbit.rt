@@ -20,7 +20,9 @@ pub fn preperiod(g: Generator) -> u64
     ensures { (result ≤ g.width) × IsOrbit (element g) result 1 }
 {
     let place = first_difference(value_at(once(g), g.seed), g.seed);
-    g.width.saturating_sub(place).div_ceil(alpha(g.multiplier))
+    let left = g.width.saturating_sub(place);
+    let v = alpha(g.multiplier);
+    left.div_ceil(v)
 }
 
 // The orbit, for every multiplier. The period of an odd one is read off how often it doubles up the bit places.

@@ -4,5 +4,5 @@ use Rattle.linear_orbits.proofs.orbit.preperiod.Goals as goal
 
 pub returns : goal.returns
 returns c =
-    even_orbit c.requires c.alpha.ensures c.once.ensures c.value_at.ensures
-    c.first_difference-place.ensures c.saturating_sub.ensures c.div_ceil.ensures
+    even_orbit c.requires c.alpha-v.ensures c.once.ensures c.value_at.ensures
+    c.first_difference-place.ensures c.saturating_sub-left.ensures c.div_ceil.ensures

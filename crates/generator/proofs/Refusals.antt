@@ -208,12 +208,22 @@ linear_fits g w a c x =
       seed_below = leb-false _ _ x;
     }))
 
+-- a number that is not out of range, and one that is
+pub in_range : (x : ℕ) → (eqb x 0 || leb 2147483647 x) ≡ false → (1 ≤ x) × (x < 2147483647)
+in_range x e =
+    let h = or_false (eqb x 0) (leb 2147483647 x) e in
+    (omega (arith, eqb-false x 0 h.0), leb-false _ _ h.1)
+
+pub out_unfit : (x : ℕ) → (eqb x 0 || leb 2147483647 x) ≡ true → 1 ≤ x → x < 2147483647 → ⊥
+out_unfit x e low high =
+    true≢false (sym e ∙ simp (ne_eqb x 0 (λ q. omega (arith, low)), lt-leb _ _ high))
+
 pub prime_fits : (g : Generator) → kind_of g ≡ kind.Prime → g.multiplier ≡ 16807 → g.increment ≡ 0 →
-    (g.seed ≡ 0 → ⊥) → g.seed ≤ 2147483646 → 0 ≡ refusal_of g
-prime_fits g q a c nonzero high =
+    (1 ≤ g.seed) × (g.seed < 2147483647) → 0 ≡ refusal_of g
+prime_fits g q a c seed =
     sym
     (kind_accepted g q (omega (arith, prime_width g q))
-    (record { kind = q; multiplier = a; increment = c; seed_low = omega (arith, nonzero); seed_high = omega arith }))
+    (record { kind = q; multiplier = a; increment = c; seed_low = seed.0; seed_high = seed.1 }))
 
 -- A multiplier that is not even is odd.
 pub parity_odd : (g : Generator) → parity_refusal g ≡ 0 → g.multiplier % 2 ≡ 1

@@ -33,10 +33,5 @@ pub fn restarted(g: Generator, x: u64) -> Generator
     requires { (refusal_of g ≡ 0) × (IsElement g x) }
     ensures { Restarted g x result }
 {
-    Generator {
-        width: g.width,
-        multiplier: g.multiplier,
-        increment: g.increment,
-        seed: x,
-    }
+    Generator { seed: x, ..g }
 }

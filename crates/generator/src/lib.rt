@@ -53,6 +53,7 @@ pub fn checked(g: Generator) -> Result<(), Refusal>
 }
 
 // The condition of the calls that go back: the multiplier is odd.
+#[tactic(auto, unfolding(crate::specs::Check::parity_refusal))]
 pub fn parity_checked(g: Generator) -> Result<(), Refusal>
     ensures { check_number result ≡ parity_refusal g }
 {

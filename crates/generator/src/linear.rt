@@ -26,19 +26,14 @@ pub fn checked(g: Generator) -> Result<(), Refusal>
     requires { (kind_of g ≡ kind.Linear) × (g.width ≤ 64) }
     ensures { check_number result ≡ refusal_of g }
 {
-    if exceeds(g.multiplier, g.width) {
-        return Err(Refusal::OperandOutOfRange);
-    }
-    if exceeds(g.increment, g.width) {
-        return Err(Refusal::OperandOutOfRange);
-    }
-    if exceeds(g.seed, g.width) {
+    if exceeds(g.multiplier, g.width) || exceeds(g.increment, g.width) || exceeds(g.seed, g.width) {
         return Err(Refusal::OperandOutOfRange);
     }
     Ok(())
 }
 
 // Element i of an accepted generator.
+#[tactic(auto, using(crate::proofs::Walking::element_walks))]
 pub fn element_at(g: Generator, index: u64) -> u64
     requires { Linear g }
     ensures { result ≡ element g index }
@@ -48,6 +43,7 @@ pub fn element_at(g: Generator, index: u64) -> u64
 }
 
 // The number one step after x.
+#[tactic(auto, using(crate::proofs::Walking::next_once))]
 pub fn next(g: Generator, x: u64) -> u64
     requires { Linear g }
     ensures { result ≡ step g x }

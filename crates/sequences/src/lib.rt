@@ -25,8 +25,7 @@ impl Indices {
         ensures { result ≡ least_of self }
     {
         match self {
-            Indices::Once(index) => Some(index),
-            Indices::Every { index, .. } => Some(index),
+            Indices::Once(index) | Indices::Every { index, .. } => Some(index),
             Indices::Never => None,
         }
     }

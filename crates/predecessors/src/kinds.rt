@@ -8,6 +8,7 @@ use generator::{Generator, Kind, kind_of};
 use words::bits::exceeds;
 
 // Whether a number is one that no generator like this one yields.
+#[tactic(auto, using(crate::proofs::StepBack::range_linear, crate::proofs::StepBack::range_prime))]
 pub fn out_of_range(g: Generator, value: u64) -> bool
     requires { refusal_of g ≡ 0 }
     ensures { result ≡ value_out_of_range g value }
@@ -19,6 +20,7 @@ pub fn out_of_range(g: Generator, value: u64) -> bool
 }
 
 // The only number that one step takes to y.
+#[tactic(auto, using(crate::proofs::StepBack::invertible, crate::proofs::StepBack::prime_invertible))]
 pub fn previous_of(g: Generator, y: u64) -> u64
     requires { predecessor_refusal g y ≡ 0 }
     ensures { OnlyPredecessor g y result }

@@ -8,18 +8,11 @@ use words::bits::low_bits;
 use words::units::inverse;
 use words::wrapping_mul;
 
-// What a step had before it added c and gave y.
-fn before_increment(y: u64, c: u64) -> u64
-    ensures { (result + c) % 2 ^ 64 ≡ y }
-{
-    y.wrapping_sub(c)
-}
-
 // The only number that one step of an accepted generator with an odd multiplier takes to y.
 pub fn step_back(g: Generator, y: u64) -> u64
     requires { (Linear g) × (g.multiplier % 2 ≡ 1) × (y < 2 ^ g.width) }
     ensures { OnlyPredecessor g y result }
 {
-    let scaled = before_increment(y, g.increment);
+    let scaled = y.wrapping_sub(g.increment);
     low_bits(wrapping_mul(inverse(g.multiplier), scaled), g.width)
 }

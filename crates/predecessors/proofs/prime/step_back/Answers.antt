@@ -1,4 +1,4 @@
--- `generator::prime::step_back` meets its contract.
+-- `predecessors::prime::step_back` meets its contract.
 use Rattle.predecessors.proofs.StepBack.{prime_steps_back}
 use Rattle.predecessors.proofs.prime.step_back.Goals as goal
 

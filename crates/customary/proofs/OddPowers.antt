@@ -6,11 +6,11 @@ use mathlib.Core.Path.{◌≡◌, refl, sym, ap, subst, ◌∙◌}
 use mathlib.Core.Bool.{Bool, true, false, cond, ◌||◌}
 use mathlib.Core.List.{List}
 use Prim.Native.Nat.{ℕ, zero, suc, ◌+◌, ◌*◌, ◌^◌, ◌-◌, ◌≤◌, ◌<◌}
-use native.Mathlib.Nat.{pow-suc, le_refl, lt_of_not-le, lt_of_lt_of_le, sub-add_cancel}
+use native.Mathlib.Nat.{pow-suc, le_refl, lt_of_not-le, lt_of_lt_of_le}
 use native.Mathlib.Decide.{dec_le, le_ind}
 use native.Mathlib.Omega.{arith}
 use lib.Dec.{T, eqb, eqb→eq, leb, lit<, ltb}
-use lib.ListN.{length, get_or}
+use lib.ListN.{length}
 use lib.Pow.{pow_mono}
 use borrow.Author.Tests.{leb-true, leb-false, le-ltb, lt-ltb}
 use Rattle.refusals.specs.declared.Refusal.TheVariants.{WidthOutOfRange}
@@ -77,10 +77,6 @@ right k x = eqb x (customary_of (k + 3))
 
 pub table_rule : {xs : List ℕ} → T (every right 0 xs) → length xs ≡ 62 → CustomaryTable xs
 table_rule {xs} t e = record { rule = λ k h. eqb→eq _ _ (every_at right xs t k (omega arith)) }
-
--- the entry for width n stands n - 3 places from the start
-pub table_entry : {xs : List ℕ} → CustomaryTable xs → {n : ℕ} → (3 ≤ n) × (n ≤ 64) → get_or xs (n - 3) 0 ≡ customary_of n
-table_entry t {n} h = t.rule (n - 3) (omega arith) ∙ ap customary_of (sub-add_cancel h.0)
 
 -- the promise of the call
 pub customary_refused : (n : ℕ) → (n < 3) ⊎ (64 < n) → CustomaryPromise n (plain_value (Err WidthOutOfRange))

@@ -10,6 +10,7 @@ use generator::{Generator, Kind, kind_of};
 use sequences::{Indices, Orbit};
 
 // The orbit of a generator.
+#[tactic(auto, using(generator::proofs::Refusals::kind_told))]
 pub fn orbit_of(g: Generator) -> Orbit
     requires { refusal_of g ≡ 0 }
     ensures { OrbitIs (element g) (modulus g) result }

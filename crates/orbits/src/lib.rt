@@ -25,7 +25,7 @@ pub enum OrbitAnswer {
 // The same in plain numbers: the refusal's number, 0 for none, and zeros beside a refusal. Where period is 0 it is 2^exponent,
 // otherwise it is the period itself, and exponent is 0.
 #[repr(C)]
-#[derive(Clone, Copy)]
+#[derive(Clone, Copy, Default)]
 pub struct OrbitReply {
     pub refusal: u64,
     pub preperiod: u64,
@@ -35,7 +35,7 @@ pub struct OrbitReply {
 
 // found is 0 for never.
 #[repr(C)]
-#[derive(Clone, Copy)]
+#[derive(Clone, Copy, Default)]
 pub struct IndexReply {
     pub refusal: u64,
     pub found: u64,

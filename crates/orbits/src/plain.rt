@@ -17,22 +17,18 @@ impl From<Result<OrbitAnswer, Refusal>> for OrbitReply {
                     exponent,
                 },
             ) => OrbitReply {
-                refusal: 0,
                 preperiod,
                 exponent,
-                period: 0,
+                ..OrbitReply::default()
             },
             Ok(OrbitAnswer::Period { preperiod, period }) => OrbitReply {
-                refusal: 0,
                 preperiod,
-                exponent: 0,
                 period,
+                ..OrbitReply::default()
             },
             Err(refusal) => OrbitReply {
                 refusal: number(refusal),
-                preperiod: 0,
-                exponent: 0,
-                period: 0,
+                ..OrbitReply::default()
             },
         }
     }
@@ -44,19 +40,14 @@ impl From<Result<Option<u64>, Refusal>> for IndexReply {
     fn from(answer: Result<Option<u64>, Refusal>) -> IndexReply {
         match answer {
             Ok(Some(index)) => IndexReply {
-                refusal: 0,
                 found: 1,
                 index,
+                ..IndexReply::default()
             },
-            Ok(None) => IndexReply {
-                refusal: 0,
-                found: 0,
-                index: 0,
-            },
+            Ok(None) => IndexReply::default(),
             Err(refusal) => IndexReply {
                 refusal: number(refusal),
-                found: 0,
-                index: 0,
+                ..IndexReply::default()
             },
         }
     }

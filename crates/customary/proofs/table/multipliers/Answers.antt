@@ -1,4 +1,4 @@
--- `generator::customary::multipliers` meets its contract: the table's rule is one test that antt computes over it.
+-- `customary::table::multipliers` meets its contract: the table's rule is one test that antt computes over it.
 use mathlib.Core.Path.{refl}
 use Rattle.sequences.specs.Least.{least}
 use Rattle.customary.specs.Customary.{odd_power, customary_of}

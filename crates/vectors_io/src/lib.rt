@@ -26,15 +26,13 @@ pub fn run(rt: &(impl Input + Print)) {
 // Reads the input and answers it; one that fills the space may not have been read to its end. As `&mut [u8; 1600000]` the
 // space has its length without a proof.
 fn answer_input(rt: &(impl Input + Print), space: &mut [u8; 1600000]) {
-    let last = read_input(rt, space);
-    let n = last.reading.n;
+    let input = read_input(rt, space).bytes;
     let mut output = io::writer(rt);
-    if n == 1600000 {
+    if input.len() == 1600000 {
         let _ = output.write_all(b"the input is too long\n");
         return;
     }
-    let input: &[u8] = space;
-    answer_all(&mut output, &input[..n]);
+    answer_all(&mut output, input);
 }
 
 // Writes the reply to each line.

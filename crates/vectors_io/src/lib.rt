@@ -5,8 +5,6 @@
 
 ghost use Rattle.std.specs.Prelude.{◌+◌, ◌≤◌, length};
 
-ghost use Rattle.std.specs.Prelude.{◌+◌, ◌≤◌, length};
-
 use archive::parts::part_end;
 use archive_io::input::read_input;
 use std::io;

@@ -7,14 +7,16 @@ use native.Mathlib.Omega.{arith}
 use lib.ListN.{length, take, drop, length-append, length-drop}
 use lib.Seq.{take-append_seam, drop_at, length-take-le}
 use borrow.Author.Tests.{eq-eqb, ne_eqb}
-use Rattle.refusals.specs.declared.Refusal.{Refusal}
-use Rattle.refusals.specs.Refusals.{number_of}
+use mathlib.Core.Bool.{Bool, true, true≢false}
+use Rattle.std.specs.Prelude.{Result, Ok, Err}
+use Rattle.std.specs.Result.{is_err}
+use Rattle.archive.specs.declared.LineRefusal.{LineRefusal}
 use Rattle.refusals.proofs.Replies.{number_suc}
 use Rattle.runs.specs.declared.Run.{Run}
 use Rattle.lines.specs.Line.{line_of}
 use Rattle.archive_line.specs.declared.Part.{Part}
 use Rattle.archive.specs.Archive.{lines_of, archive_of, IsArchive, numbered}
-use Rattle.archive.specs.Check.{CheckReply, refused_at, check_of}
+use Rattle.archive.specs.Check.{CheckReply, plain_check, check_of, CheckPromise}
 use Rattle.archive_line.specs.Line.{line_at, part_from, part_of, LinePromise, PartPromise}
 use Rattle.archive.specs.Parts.{first_part}
 use Rattle.archive.proofs.Splitting.{joined, lines_joined, lines_archive, part_within}
@@ -154,12 +156,13 @@ part_found {bytes} {n} z e =
     let is : part_of bytes n ≡ part_from n 1 0 (lines_of bytes) = unfold part_of in rw (z, part_of) in
     subst (PartPromise bytes n) (is ∙ sym e) (part_promise bytes n)
 
-pub part_refused : (bytes : List ℕ) (n : ℕ) (x : Refusal) {line : ℕ} → refused_at (number_of x) line ≡ check_of bytes →
-    PartPromise bytes n (record { start = 0; length = 0 })
-part_refused bytes n x e = subst (PartPromise bytes n) is (part_promise bytes n)
+pub part_refused : (bytes : List ℕ) (n : ℕ) (a : Result (Unit {0}) LineRefusal) {refused : Bool} → refused ≡ is_err a → refused ≡ true →
+    CheckPromise bytes (plain_check a) → PartPromise bytes n (record { start = 0; length = 0 })
+part_refused bytes n (Ok u) e t p = absurd (true≢false (sym t ∙ e))
+part_refused bytes n (Err x) e t p = subst (PartPromise bytes n) is (part_promise bytes n)
   where
-    check : (check_of bytes).refusal ≡ suc (number_suc x).0
-    check = ap (λ (c : CheckReply). c.refusal) (sym e) ∙ (number_suc x).1
+    check : (check_of bytes).refusal ≡ suc (number_suc x.refusal).0
+    check = ap (λ (c : CheckReply). c.refusal) (sym p.equals) ∙ (number_suc x.refusal).1
 
     is : part_of bytes n ≡ record { start = 0; length = 0 }
     is = unfold part_of in rw (check, part_of)

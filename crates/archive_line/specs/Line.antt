@@ -1,5 +1,5 @@
 -- The call `line` (SCOPE 5.5): a part of the archive itself, the empty part if the archive is refused or has no such line.
-use Rattle.std.specs.Prelude.{◌≡◌, true, false, List, [], ◌∷◌, ◌++◌, map, ℕ, zero, suc, ◌+◌, ◌≤◌, eqb, length, take, drop}
+use Rattle.std.specs.Prelude.{◌≡◌, true, false, List, [], ◌∷◌, ◌++◌, map, ℕ, zero, suc, ◌+◌, ◌≤◌, eqb, length, take, drop, Option, None, Some}
 use Rattle.runs.specs.declared.Run.{Run}
 use Rattle.lines.specs.Line.{line_of}
 use Rattle.archive_line.specs.declared.Part.{Part}
@@ -21,6 +21,11 @@ part_from n k start (line ∷ lines) =
 unfoldable pub part_of : List ℕ → ℕ → Part
 part_of bytes n =
     elim (check_of bytes).refusal [ zero ↦ part_from n 1 0 (lines_of bytes) | suc r ↦ record { start = 0; length = 0 } ]
+
+-- The part that is told: the empty one where there is none.
+abbrev pub plain_part : Option Part → Part
+plain_part (Some part) = part
+plain_part None = record { start = 0; length = 0 }
 
 -- The promise of the call: of an accepted archive the line with that number, of any other bytes the empty part.
 pub record LinePromise (bytes : List ℕ) (n : ℕ) (part : List ℕ) : Type 0 where

@@ -4,7 +4,8 @@
 
 ghost use Rattle.archive_line.specs.Line.{LinePromise, PartPromise};
 
-use archive::{ArchiveCheck, checked};
+use archive::checked;
+use by_number::part_of_line;
 
 pub mod by_number;
 
@@ -16,18 +17,20 @@ pub struct Part {
     pub length: usize,
 }
 
+// The part where nothing is, which C is told for none.
+const EMPTY: Part = Part {
+    start: 0,
+    length: 0,
+};
+
 // The part that the line with that number is; the empty part if the archive is refused or has no such line.
 pub fn line_part(archive: &[u8], number: u64) -> Part
     ensures { PartPromise archive.now number result }
 {
-    let verdict = checked(archive);
-    if let ArchiveCheck::Refused(_, _) = verdict {
-        return Part {
-            start: 0,
-            length: 0,
-        };
+    if checked(archive).is_err() {
+        return EMPTY;
     }
-    by_number::part_of_line(archive, number)
+    part_of_line(archive, number).unwrap_or(EMPTY)
 }
 
 // The line with that number, as a part of the archive itself.

@@ -9,20 +9,21 @@ use native.Mathlib.Omega.{arith}
 use lib.Dec.{eqb}
 use lib.ListN.{length}
 use borrow.Author.Tests.{eq-eqb, eqb-true}
-use Rattle.refusals.specs.declared.Refusal.{Refusal}
-use Rattle.refusals.specs.Refusals.{number_of}
+use Rattle.std.specs.Prelude.{Result, Err}
+use Rattle.archive.specs.declared.LineRefusal.{LineRefusal}
 use Rattle.sequences.proofs.Least.{Least, least_least, least_below}
 use Rattle.refusals.proofs.Replies.{number_suc}
 use Rattle.runs.specs.declared.Run.{Run}
 use Rattle.runs.specs.Run.{shows}
 use Rattle.archive.specs.Archive.{runs_in, numbered}
-use Rattle.archive.specs.Check.{CheckReply, refused_at, check_of, Accepts}
+use Rattle.archive.specs.Check.{CheckReply, refused_at, plain_check, check_of, Accepts, CheckPromise}
 use Rattle.lookup.specs.declared.LookupReply.{LookupReply}
 use Rattle.lookup.specs.Lookup.{
   position_of,
   found_at,
   found_none,
   lookup_refused,
+  plain_lookup,
   first_showing,
   lookup_of,
   Shows,
@@ -30,7 +31,7 @@ use Rattle.lookup.specs.Lookup.{
   EarliestLocation,
   LookupPromise,
 }
-use Rattle.archive.proofs.Checking.{long_check, check_accepts}
+use Rattle.archive.proofs.Checking.{long_check, check_accepts, check_as}
 use Rattle.lookup.proofs.Walk.{lookup_next, lookup_here}
 
 -- Locations.
@@ -220,9 +221,10 @@ pub lookup_found : {bytes : List ℕ} {y : ℕ} {reply : LookupReply} → (check
     reply ≡ first_showing 1 (runs_in bytes) y → LookupPromise bytes y reply
 lookup_found {bytes} {y} z e = lookup_promise (e ∙ sym (lookup_accepted bytes y z))
 
-pub lookup_refused_lem : {bytes : List ℕ} {y : ℕ} (x : Refusal) {line : ℕ} → refused_at (number_of x) line ≡ check_of bytes →
-    LookupPromise bytes y (lookup_refused (number_of x) line)
-lookup_refused_lem {bytes} {y} x {line} e =
-    let k = (number_suc x).1 in
+pub lookup_refused_lem : {bytes : List ℕ} (y : ℕ) {a : Result (Unit {0}) LineRefusal} (x : LineRefusal) → a ≡ Err x →
+    CheckPromise bytes (plain_check a) → LookupPromise bytes y (plain_lookup (Err x))
+lookup_refused_lem {bytes} y x e p =
+    let k = (number_suc x.refusal).1 in
     lookup_promise
-    (ap (λ (n : ℕ). lookup_refused n line) k ∙ sym (lookup_declined bytes y (sym e ∙ ap (λ (n : ℕ). refused_at n line) k)))
+    (ap (λ (n : ℕ). lookup_refused n x.line) k
+    ∙ sym (lookup_declined bytes y (sym (check_as (Err x) e p) ∙ ap (λ (n : ℕ). refused_at n x.line) k)))

@@ -30,22 +30,22 @@ abbrev pub showing : ℕ → ℕ → Unit {0} → List (List ℕ) → LookupRepl
 showing y k s lines = first_showing k (map run_in lines) y
 
 module _ {bytes : List ℕ} (y : ℕ) {at k : ℕ} (w : Fold (showing y) tt bytes at k tt) where
-  module _ {next : NextRun} {p : ℕ} (l : at < length bytes) (r : LineRun bytes at next) (e : p ≡ position_of next.run y) where
+  module _ {next : NextRun} (l : at < length bytes) (r : LineRun bytes at next) where
     -- the run that is read is the one tried
     tried : (lines : List (List ℕ)) →
         first_showing k (map run_in (take (next.end - at) (drop at bytes) ∷ lines)) y ≡ first_showing k (next.run ∷ map run_in lines) y
     tried lines = ap (λ (n : Run). first_showing k (n ∷ map run_in lines) y) (run_line l r)
 
-    pub look_next : next.run.count ≤ p → Fold (showing y) tt bytes next.end (k + 1) tt
+    pub look_next : (position_of next.run y < next.run.count → ⊥) → Fold (showing y) tt bytes next.end (k + 1) tt
     look_next h =
         fold_next w l r.ends tt
-        (λ lines. tried lines ∙ lookup_next k next.run (map run_in lines) y (omega (arith, e, h)))
+        (λ lines. tried lines ∙ lookup_next k next.run (map run_in lines) y (omega (arith, h)))
 
-    pub look_found : p < next.run.count → found_at k p ≡ first_showing 1 (runs_in bytes) y
+    pub look_found : {p : ℕ} → (position_of next.run y < next.run.count) × (p ≡ position_of next.run y) → found_at k p ≡ first_showing 1 (runs_in bytes) y
     look_found h =
         let lines = lines_of (drop next.end bytes) in
-        ap (found_at k) e
-        ∙ sym (fold_line w l r.ends ∙ tried lines ∙ lookup_here k next.run (map run_in lines) y (omega (arith, e, h)))
+        ap (found_at k) h.1
+        ∙ sym (fold_line w l r.ends ∙ tried lines ∙ lookup_here k next.run (map run_in lines) y h.0)
 
   pub look_end : length bytes ≤ at → found_none ≡ first_showing 1 (runs_in bytes) y
   look_end l = sym (fold_end w l ∙ unfold first_showing in refl)

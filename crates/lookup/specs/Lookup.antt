@@ -1,12 +1,12 @@
 -- The lookup: the earliest location in the archive that shows a number (SCOPE 1.3, 5.3, 5.4).
-use Rattle.std.specs.Prelude.{◌≡◌, ◌↔◌, ◌⊎◌, true, false, List, [], ◌∷◌, ℕ, zero, suc, ◌<◌, eqb, ltb}
+use Rattle.std.specs.Prelude.{◌≡◌, ◌↔◌, ◌⊎◌, true, false, List, [], ◌∷◌, ℕ, zero, suc, ◌<◌, eqb, ltb, Option, None, Some, Result, Ok, Err}
 use Rattle.sequences.specs.Least.{least}
 use Rattle.refusals.specs.Refusals.{number_of}
 use Rattle.runs.specs.declared.Run.{Run}
 use Rattle.runs.specs.Run.{shows}
 use Rattle.lines.specs.Line.{no_run}
-use Rattle.lookup.specs.declared.LookupAnswer.{LookupAnswer}
-use Rattle.lookup.specs.declared.LookupAnswer.TheVariants.{At, Nowhere, Refused}
+use Rattle.archive.specs.declared.LineRefusal.{LineRefusal}
+use Rattle.lookup.specs.declared.location.Location.{Location}
 use Rattle.archive.specs.Archive.{runs_in, numbered}
 use Rattle.lookup.specs.declared.LookupReply.{LookupReply}
 use Rattle.archive.specs.Check.{check_of, Accepts}
@@ -26,11 +26,14 @@ found_none = record { refusal = 0; line = 0; found = 0; position = 0 }
 abbrev pub lookup_refused : ℕ → ℕ → LookupReply
 lookup_refused n line = record { refusal = n; line = line; found = 0; position = 0 }
 
--- What an answer says.
-abbrev pub plain_lookup : LookupAnswer → LookupReply
-plain_lookup (At line p) = found_at line p
-plain_lookup Nowhere = found_none
-plain_lookup (Refused r line) = lookup_refused (number_of r) line
+-- What a location says, and what an answer says.
+abbrev pub plain_location : Option Location → LookupReply
+plain_location (Some at) = found_at at.line at.position
+plain_location None = found_none
+
+abbrev pub plain_lookup : Result (Option Location) LineRefusal → LookupReply
+plain_lookup (Ok found) = plain_location found
+plain_lookup (Err r) = lookup_refused (number_of r.refusal) r.line
 
 -- The first of the runs that shows y, numbered from k on, with its least position.
 unfoldable pub first_showing : ℕ → List Run → ℕ → LookupReply

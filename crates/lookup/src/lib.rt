@@ -4,19 +4,12 @@
 
 ghost use Rattle.lookup.specs.Lookup.{LookupPromise, plain_lookup};
 
-use archive::{ArchiveCheck, checked};
-use refusals::Refusal;
+use archive::{LineRefusal, checked};
+pub use location::Location;
 
 pub mod location;
 pub mod plain;
 pub mod position;
-
-#[derive(Clone, Copy)]
-pub enum LookupAnswer {
-    At(u64, u64),
-    Nowhere,
-    Refused(Refusal, u64),
-}
 
 // The same in plain numbers: the refusal's number, 0 for none; the line of the location or of the refusal; found is 0 for none;
 // zeros beside a refusal.
@@ -30,12 +23,9 @@ pub struct LookupReply {
 }
 
 // The earliest location in the archive that shows the value.
-pub fn lookup(archive: &[u8], value: u64) -> LookupAnswer
+pub fn lookup(archive: &[u8], value: u64) -> Result<Option<Location>, LineRefusal>
     ensures { LookupPromise archive.now value (plain_lookup result) }
 {
-    let verdict = checked(archive);
-    if let ArchiveCheck::Refused(refusal, number) = verdict {
-        return LookupAnswer::Refused(refusal, number);
-    }
-    location::earliest(archive, value)
+    checked(archive)?;
+    Ok(location::earliest(archive, value))
 }

@@ -2,30 +2,33 @@
 ghost use Rattle.std.specs.Prelude.{◌≡◌};
 ghost use Rattle.lookup.specs.Lookup.{plain_lookup};
 
-use crate::{LookupAnswer, LookupReply};
+use crate::{Location, LookupReply};
+use archive::LineRefusal;
 use refusals::number;
 
-pub fn of_lookup(answer: LookupAnswer) -> LookupReply
-    ensures { result ≡ plain_lookup answer }
-{
-    match answer {
-        LookupAnswer::At(line, position) => LookupReply {
-            refusal: 0,
-            line,
-            found: 1,
-            position,
-        },
-        LookupAnswer::Nowhere => LookupReply {
-            refusal: 0,
-            line: 0,
-            found: 0,
-            position: 0,
-        },
-        LookupAnswer::Refused(refusal, at) => LookupReply {
-            refusal: number(refusal),
-            line: at,
-            found: 0,
-            position: 0,
-        },
+impl From<Result<Option<Location>, LineRefusal>> for LookupReply {
+    ghost from_gives = { λ answer r. r ≡ plain_lookup answer };
+
+    fn from(answer: Result<Option<Location>, LineRefusal>) -> LookupReply {
+        match answer {
+            Ok(Some(Location { line, position })) => LookupReply {
+                refusal: 0,
+                line,
+                found: 1,
+                position,
+            },
+            Ok(None) => LookupReply {
+                refusal: 0,
+                line: 0,
+                found: 0,
+                position: 0,
+            },
+            Err(declined) => LookupReply {
+                refusal: number(declined.refusal),
+                line: declined.line,
+                found: 0,
+                position: 0,
+            },
+        }
     }
 }

@@ -8,19 +8,19 @@ use native.Mathlib.Decide.{dec_lt}
 use native.Mathlib.Omega.{arith}
 use lib.ListN.{length, take, drop}
 use borrow.Author.Tests.{lt-ltb, le-ltb}
-use Rattle.refusals.specs.declared.Refusal.{Refusal}
-use Rattle.refusals.specs.Refusals.{number_of}
+use Rattle.std.specs.Prelude.{Result, Err}
+use Rattle.archive.specs.declared.LineRefusal.{LineRefusal}
 use Rattle.refusals.proofs.Replies.{number_suc}
 use Rattle.runs.specs.declared.Run.{Run}
 use Rattle.lines.specs.ReadLine.{run_in}
 use Rattle.summary.specs.declared.SummaryReply.{SummaryReply}
 use Rattle.archive.specs.declared.parts.NextRun.{NextRun}
 use Rattle.archive.specs.Archive.{lines_of, runs_in, IsArchive}
-use Rattle.archive.specs.Check.{CheckReply, refused_at, check_of}
-use Rattle.summary.specs.Summary.{total_of, summary_given, summary_refused, runs_summary, summary_of, SummaryPromise}
+use Rattle.archive.specs.Check.{CheckReply, refused_at, plain_check, check_of, CheckPromise}
+use Rattle.summary.specs.Summary.{total_of, summary_given, summary_refused, plain_summary, runs_summary, summary_of, SummaryPromise}
 use Rattle.archive.specs.Parts.{LineRun}
 use Rattle.archive.proofs.Folding.{Fold, fold_line, fold_next, fold_end}
-use Rattle.archive.proofs.Checking.{long_check, check_accepts}
+use Rattle.archive.proofs.Checking.{long_check, check_accepts, check_as}
 use Rattle.archive.proofs.Runs.{run_line}
 
 -- The summary of some runs, by whether the sum fits a word.
@@ -140,9 +140,10 @@ pub summary_summed : {bytes : List ℕ} {reply : SummaryReply} → (check_of byt
     SummaryPromise bytes reply
 summary_summed {bytes} z e = summary_promise (e ∙ sym (summary_accepted bytes z))
 
-pub summary_refused_lem : {bytes : List ℕ} (x : Refusal) {line : ℕ} → refused_at (number_of x) line ≡ check_of bytes →
-    SummaryPromise bytes (summary_refused (number_of x) line)
-summary_refused_lem {bytes} x {line} e =
-    let k = (number_suc x).1 in
+pub summary_refused_lem : {bytes : List ℕ} {a : Result (Unit {0}) LineRefusal} (x : LineRefusal) → a ≡ Err x →
+    CheckPromise bytes (plain_check a) → SummaryPromise bytes (plain_summary (Err x))
+summary_refused_lem {bytes} x e p =
+    let k = (number_suc x.refusal).1 in
     summary_promise
-    (ap (λ (n : ℕ). summary_refused n line) k ∙ sym (summary_declined bytes (sym e ∙ ap (λ (n : ℕ). refused_at n line) k)))
+    (ap (λ (n : ℕ). summary_refused n x.line) k
+    ∙ sym (summary_declined bytes (sym (check_as (Err x) e p) ∙ ap (λ (n : ℕ). refused_at n x.line) k)))

@@ -1,9 +1,9 @@
 -- The summary of an archive: how many lines it has, and the sum of their counts (document 02, note 6; SCOPE 5.6).
-use Rattle.std.specs.Prelude.{◌≡◌, cond, List, [], ◌∷◌, ℕ, zero, suc, ◌+◌, ◌^◌, ◌≤◌, ◌<◌, ltb, length}
+use Rattle.std.specs.Prelude.{◌≡◌, cond, List, [], ◌∷◌, ℕ, zero, suc, ◌+◌, ◌^◌, ◌≤◌, ◌<◌, ltb, length, Result, Ok, Err}
 use Rattle.refusals.specs.Refusals.{number_of}
 use Rattle.runs.specs.declared.Run.{Run}
-use Rattle.summary.specs.declared.SummaryAnswer.{SummaryAnswer}
-use Rattle.summary.specs.declared.SummaryAnswer.TheVariants.{Sum, Refused}
+use Rattle.archive.specs.declared.LineRefusal.{LineRefusal}
+use Rattle.summary.specs.declared.totals.Totals.{Totals}
 use Rattle.summary.specs.declared.SummaryReply.{SummaryReply}
 use Rattle.archive.specs.Archive.{runs_in, IsArchive}
 use Rattle.archive.specs.Check.{check_of}
@@ -21,9 +21,9 @@ abbrev pub summary_refused : ℕ → ℕ → SummaryReply
 summary_refused n line = record { refusal = n; line = line; line_count = 0; total = 0 }
 
 -- What an answer says.
-abbrev pub plain_summary : SummaryAnswer → SummaryReply
-plain_summary (Sum lines total) = summary_given lines total
-plain_summary (Refused r line) = summary_refused (number_of r) line
+abbrev pub plain_summary : Result Totals LineRefusal → SummaryReply
+plain_summary (Ok t) = summary_given t.line_count t.total
+plain_summary (Err r) = summary_refused (number_of r.refusal) r.line
 
 -- The summary of some runs. 10, which concerns no line: the sum is above 2^64 − 1.
 unfoldable pub runs_summary : List Run → SummaryReply

@@ -4,18 +4,11 @@
 
 ghost use Rattle.summary.specs.Summary.{SummaryPromise, plain_summary};
 
-use archive::{ArchiveCheck, checked};
-use refusals::Refusal;
+use archive::{LineRefusal, checked};
+pub use totals::Totals;
 
 pub mod plain;
 pub mod totals;
-
-// The number of lines and the sum of their counts.
-#[derive(Clone, Copy)]
-pub enum SummaryAnswer {
-    Sum(u64, u64),
-    Refused(Refusal, u64),
-}
 
 // The same in plain numbers: the refusal's number, 0 for none, and its line; zeros beside a refusal.
 #[repr(C)]
@@ -28,12 +21,9 @@ pub struct SummaryReply {
 }
 
 // How many lines the archive has, and the sum of their counts.
-pub fn summary(archive: &[u8]) -> SummaryAnswer
+pub fn summary(archive: &[u8]) -> Result<Totals, LineRefusal>
     ensures { SummaryPromise archive.now (plain_summary result) }
 {
-    let verdict = checked(archive);
-    if let ArchiveCheck::Refused(refusal, number) = verdict {
-        return SummaryAnswer::Refused(refusal, number);
-    }
+    checked(archive)?;
     totals::summed(archive)
 }

@@ -4,28 +4,36 @@ ghost use Rattle.archive.specs.Archive.{runs_in};
 ghost use Rattle.archive.specs.Check.{check_of};
 ghost use Rattle.summary.specs.Summary.{runs_summary, plain_summary};
 
-use crate::SummaryAnswer;
+use archive::LineRefusal;
 use archive::parts::next_run;
 use refusals::Refusal;
 
+// The number of lines and the sum of their counts.
+#[derive(Clone, Copy)]
+pub struct Totals {
+    pub line_count: u64,
+    pub total: u64,
+}
+
 // The lines counted and their counts added up, as long as the sum fits a word: a sum that does not, never fits again.
-pub fn summed(archive: &[u8]) -> SummaryAnswer
+pub fn summed(archive: &[u8]) -> Result<Totals, LineRefusal>
     requires { (check_of archive.now).refusal ≡ 0 }
     ensures { plain_summary result ≡ runs_summary (runs_in archive.now) }
 {
     let mut at = 0;
     let mut line_count = 0;
-    let mut total = 0;
+    let mut total: u64 = 0;
     while at < archive.len() {
         let next = next_run(archive, at);
-        let run = next.run;
-        let count = run.count;
-        if u64::MAX - total < count {
-            return SummaryAnswer::Refused(Refusal::TotalOverflow, 0);
-        }
-        total += count;
+        let Some(sum) = total.checked_add(next.run.count) else {
+            return Err(LineRefusal {
+                refusal: Refusal::TotalOverflow,
+                line: 0,
+            });
+        };
+        total = sum;
         at = next.end;
         line_count += 1;
     }
-    SummaryAnswer::Sum(line_count, total)
+    Ok(Totals { line_count, total })
 }

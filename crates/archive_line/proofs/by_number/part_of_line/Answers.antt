@@ -8,10 +8,13 @@ use Rattle.archive_line.proofs.by_number.part_of_line.Goals as goal
 pub loop-at-init : goal.loop-at-init
 loop-at-init c = fold_start
 
-pub returns-then-k-number : goal.returns-then-k-number
-returns-then-k-number c =
+pub returns-then-k-number-clause-part : goal.returns-then-k-number-clause-part
+returns-then-k-number-clause-part c =
     part_found c.requires
     (part_reached _ c.loop-at.invariant c.loop-at-test.true c.part_end-end.ensures c.if-k-number.true)
+
+pub returns-then-k-number-clause-some : goal.returns-then-k-number-clause-some
+returns-then-k-number-clause-some c = omega (arith, part_advances _ c.loop-at-test.true c.part_end-end.ensures)
 
 pub loop-at-smaller : goal.loop-at-smaller
 loop-at-smaller c =
@@ -25,5 +28,5 @@ pub loop-at-preserved : goal.loop-at-preserved
 loop-at-preserved c =
     part_passed _ c.loop-at.invariant c.loop-at-test.true c.part_end-end.ensures c.if-k-number.false
 
-pub returns : goal.returns
-returns c = part_found c.requires (part_missing _ c.loop-at.invariant c.loop-at-test.false)
+pub returns-clause-part : goal.returns-clause-part
+returns-clause-part c = part_found c.requires (part_missing _ c.loop-at.invariant c.loop-at-test.false)

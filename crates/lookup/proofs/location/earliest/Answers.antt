@@ -14,16 +14,15 @@ next_run-next-requires c =
     let l = c.loop-at-test.true in
     record { at_in_bounds = l; archive_value = run_accepted c.requires c.loop-at.invariant.1 l }
 
-pub position_in-position-requires : goal.position_in-position-requires
-position_in-position-requires c = c.next_run-next.ensures.accepted
+pub position_in-requires : goal.position_in-requires
+position_in-requires c = c.next_run-next.ensures.accepted
 
-pub returns-then-position-run : goal.returns-then-position-run
-returns-then-position-run c =
-    look_found _ c.loop-at.invariant.0 c.loop-at-test.true c.next_run-next.ensures c.position_in-position.ensures
-    c.if-position-run.true
+pub returns-in-Some : goal.returns-in-Some
+returns-in-Some c =
+    look_found _ c.loop-at.invariant.0 c.loop-at-test.true c.next_run-next.ensures c.in-Some.ensures
 
-pub overflow_add-number : goal.overflow_add-number
-overflow_add-number c =
+pub overflow_add-line : goal.overflow_add-line
+overflow_add-line c =
     omega (arith, c.loop-at.invariant.0.few, c.loop-at-test.true)
 
 pub loop-at-smaller : goal.loop-at-smaller
@@ -35,7 +34,7 @@ pub loop-at-preserved : goal.loop-at-preserved
 loop-at-preserved c =
     let l = c.loop-at-test.true in
     let w = c.loop-at.invariant in (
-      look_next _ w.0 l c.next_run-next.ensures c.position_in-position.ensures c.if-position-run.false,
+      look_next _ w.0 l c.next_run-next.ensures c.in_default.ensures,
       run_next c.requires w.1 l c.next_run-next.ensures,
     )
 

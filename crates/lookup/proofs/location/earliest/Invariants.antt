@@ -9,7 +9,7 @@ use Rattle.lookup.proofs.location.earliest.Given as goal
 
 abbrev pub invariant-loop-at : goal.invariant-loop-at
 invariant-loop-at l =
-    Fold (showing l.y) tt l.archive l.at l.number tt × Fold refusing tt l.archive l.at l.number tt
+    Fold (showing l.y) tt l.archive l.at l.line tt × Fold refusing tt l.archive l.at l.line tt
 
 abbrev pub decreases-loop-at : goal.decreases-loop-at
 decreases-loop-at l = length l.archive - l.at

@@ -15,7 +15,7 @@ pub mod turns;
 
 // found is 0 for never.
 #[repr(C)]
-#[derive(Clone, Copy)]
+#[derive(Clone, Copy, Default)]
 pub struct GapReply {
     pub refusal: u64,
     pub found: u64,

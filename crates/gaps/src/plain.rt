@@ -11,19 +11,14 @@ impl From<Result<Option<i64>, Refusal>> for GapReply {
     fn from(answer: Result<Option<i64>, Refusal>) -> GapReply {
         match answer {
             Ok(Some(steps)) => GapReply {
-                refusal: 0,
                 found: 1,
                 steps,
+                ..GapReply::default()
             },
-            Ok(None) => GapReply {
-                refusal: 0,
-                found: 0,
-                steps: 0,
-            },
+            Ok(None) => GapReply::default(),
             Err(refusal) => GapReply {
                 refusal: number(refusal),
-                found: 0,
-                steps: 0,
+                ..GapReply::default()
             },
         }
     }

@@ -23,7 +23,7 @@ pub enum PlacesAnswer {
 
 // found is 0 for never; recurs is 0 for the index only, 1 for it and those every 2^exponent further.
 #[repr(C)]
-#[derive(Clone, Copy)]
+#[derive(Clone, Copy, Default)]
 pub struct PlacesReply {
     pub refusal: u64,
     pub found: u64,

@@ -11,32 +11,21 @@ impl From<Result<PlacesAnswer, Refusal>> for PlacesReply {
     fn from(answer: Result<PlacesAnswer, Refusal>) -> PlacesReply {
         match answer {
             Ok(PlacesAnswer::Once(index)) => PlacesReply {
-                refusal: 0,
                 found: 1,
                 index,
-                recurs: 0,
-                exponent: 0,
+                ..PlacesReply::default()
             },
             Ok(PlacesAnswer::Every { index, exponent }) => PlacesReply {
-                refusal: 0,
                 found: 1,
                 index,
                 recurs: 1,
                 exponent,
+                ..PlacesReply::default()
             },
-            Ok(PlacesAnswer::Never) => PlacesReply {
-                refusal: 0,
-                found: 0,
-                index: 0,
-                recurs: 0,
-                exponent: 0,
-            },
+            Ok(PlacesAnswer::Never) => PlacesReply::default(),
             Err(refusal) => PlacesReply {
                 refusal: number(refusal),
-                found: 0,
-                index: 0,
-                recurs: 0,
-                exponent: 0,
+                ..PlacesReply::default()
             },
         }
     }

@@ -1,7 +1,7 @@
 -- Laws of runs: what the refusal table leaves of an accepted one.
 use mathlib.Core.Path.{◌≡◌, sym, ap, ◌∙◌}
 use mathlib.Core.Bool.{false, cond}
-use Prim.Native.Nat.{ℕ, ◌+◌, ◌^◌, ◌-◌, ◌≤◌, ◌<◌}
+use Prim.Native.Nat.{ℕ, ◌+◌, ◌^◌, ◌≤◌, ◌<◌}
 use native.Mathlib.Omega.{arith}
 use lib.Dec.{eqb, leb}
 use borrow.Author.Tests.{eqb-false, leb-false}
@@ -35,13 +35,6 @@ valid_run run e =
     range =
         or_false (eqb run.count 0) (leb (2 ^ 64) (run.first + run.count))
         (cond_none (run_out_of_range run) 4 0 parts.1).0
-
--- what the machine tests is the sum
-pub sum_high : {first count : ℕ} → count ≤ 2 ^ 64 - 1 → 2 ^ 64 - 1 - count < first → 2 ^ 64 ≤ first + count
-sum_high l h = omega arith
-
-pub sum_low : {first count : ℕ} → count ≤ 2 ^ 64 - 1 → first ≤ 2 ^ 64 - 1 - count → first + count < 2 ^ 64
-sum_low l h = omega arith
 
 -- from its first element on the generator yields what the run shows
 pub starts_at : (run : Run) {x : ℕ} {r : Generator} → x ≡ element run.generator run.first →

@@ -3,16 +3,8 @@ use mathlib.Core.Path.{subst}
 use mathlib.Core.Logic.{inl, inr}
 use native.Mathlib.Omega.{arith}
 use Rattle.sequences.specs.Occurrences.{IndicesAre}
-use Rattle.refusals.proofs.Replies.{number_accepted, number_refused}
-use Rattle.gaps.proofs.Gaps.{
-  gap_accepted,
-  gap_refused,
-  gap_missing,
-  gap_counted,
-  every_located,
-  other_absent,
-  period_last,
-}
+use Rattle.refusals.proofs.Replies.{number_accepted}
+use Rattle.gaps.proofs.Gaps.{gap_missing, gap_counted, every_located, other_absent, period_last}
 use Rattle.gaps.proofs.gap.Goals as goal
 
 pub ahead-d-requires : goal.ahead-d-requires

@@ -7,6 +7,7 @@ use generator::Generator;
 use generator::kinds::{restarted, value_of};
 
 // The generator of an accepted run from the run's first element on: its index p is the run's position p.
+#[tactic(auto, using(crate::proofs::Runs::valid_run, crate::proofs::Runs::starts_at))]
 pub fn from_first(run: Run) -> Generator
     requires { run_refusal run ≡ 0 }
     ensures { FromFirst run result }

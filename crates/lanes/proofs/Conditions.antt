@@ -1,11 +1,10 @@
--- The conditions of the two calls: what they leave, and that they leave it. So a run that lacks one of these is refused with 15, and one
--- that has them all is not refused.
-use mathlib.Core.Path.{◌≡◌, refl, sym, ap, ◌∙◌}
+-- The conditions of the two calls: what they leave.
+use mathlib.Core.Path.{◌≡◌, refl}
 use mathlib.Core.Bool.{Bool, true, false, ◌||◌, true≢false}
 use Prim.Native.Nat.{ℕ, zero, suc, ◌≤◌, ◌<◌}
 use native.Mathlib.Omega.{arith}
 use lib.Dec.{eqb, leb, ltb}
-use borrow.Author.Tests.{ne_eqb, lt-leb, le-ltb, leb-false, ltb-false}
+use borrow.Author.Tests.{leb-false, ltb-false}
 use Rattle.refusals.proofs.Conditions.{or_false}
 use Rattle.generator.specs.declared.Kind.{Kind}
 use Rattle.generator.specs.declared.Kind.TheVariants as kind
@@ -28,10 +27,6 @@ with_lanes : (k : Kind) → without_lanes k ≡ false → k ≡ kind.Linear
 with_lanes kind.Linear e = refl
 with_lanes kind.Prime e = absurd (true≢false e)
 
--- no generator is of both kinds
-pub not_prime : {k : Kind} → k ≡ kind.Linear → k ≡ kind.Prime → ⊥
-not_prime e f = true≢false (sym (ap without_lanes f) ∙ ap without_lanes e)
-
 module _ (run : Run) (k j : ℕ) where
   in_range : lanes_out_of_range run k j ≡ false → InRange run k j
   in_range e =
@@ -53,30 +48,6 @@ module _ (run : Run) (k j : ℕ) where
 
       of_lane : (leb k j ≡ false) × (without_lanes (kind_of run.generator) ≡ false)
       of_lane = or_false (leb k j) (without_lanes (kind_of run.generator)) of_count.1
-
-  range_in : InRange run k j → lanes_out_of_range run k j ≡ false
-  range_in r =
-      rw (
-        ne_eqb k 0 (λ e. omega (arith, e, r.lane)),
-        le-ltb 16 k r.few,
-        le-ltb run.count k r.enough,
-        lt-leb k j r.lane,
-        r.kind,
-      )
-
-  -- Of an accepted run.
-  module _ (z : run_refusal run ≡ 0) where
-    pub lanes_refused : (InRange run k j → ⊥) → 15 ≡ lane_refusal run k j
-    unfolding lane_refusal
-    lanes_refused unfit = go (lanes_out_of_range run k j) refl
-      where
-        go : (b : Bool) → lanes_out_of_range run k j ≡ b → 15 ≡ lane_refusal run k j
-        go true e = rw (z, e)
-        go false e = absurd (unfit (in_range e))
-
-    pub lanes_accepted : InRange run k j → 0 ≡ lane_refusal run k j
-    unfolding lane_refusal
-    lanes_accepted r = rw (z, range_in r)
 
   -- Where nothing is refused, neither condition holds, whichever comes first.
   neither : lane_refusal run k j ≡ 0 → (run_refusal run ≡ 0) × (lanes_out_of_range run k j ≡ false)

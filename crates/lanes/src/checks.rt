@@ -17,13 +17,7 @@ pub fn lane_checked(run: Run, lanes: u64, lane: u64) -> Result<(), Refusal>
     if let Kind::Prime = kind_of(run.generator) {
         return Err(Refusal::LanesOutOfRange);
     }
-    if lanes <= lane {
-        return Err(Refusal::LanesOutOfRange);
-    }
-    if 16 < lanes {
-        return Err(Refusal::LanesOutOfRange);
-    }
-    if run.count < lanes {
+    if lanes <= lane || 16 < lanes || run.count < lanes {
         return Err(Refusal::LanesOutOfRange);
     }
     Ok(())

@@ -31,6 +31,7 @@ fn map_of(a: u64, c: u64, k: u64) -> Affine
 }
 
 // The rule of k steps: their map, of which the low bits matter.
+#[tactic(auto, using(crate::proofs::Rules::rule_is))]
 fn rule_of(g: Generator, k: u64) -> Affine
     requires { Linear g }
     ensures { result ≡ rule_of g k }
@@ -42,6 +43,7 @@ fn rule_of(g: Generator, k: u64) -> Affine
 }
 
 // How many of the positions below the count fall to lane j of k: j itself, and one for each k positions behind it.
+#[tactic(auto, using(crate::proofs::Counting::count_quotient))]
 fn count_of(count: u64, k: u64, j: u64) -> u64
     requires { (j < k) × (j < count) }
     ensures { result ≡ lane_count k count j }
@@ -50,6 +52,7 @@ fn count_of(count: u64, k: u64, j: u64) -> u64
 }
 
 // The lane itself.
+#[tactic(auto, using(crate::proofs::Conditions::valid_lane))]
 pub fn lane_of(run: Run, lanes: u64, lane: u64) -> Run
     requires { lane_refusal run lanes lane ≡ 0 }
     ensures { result ≡ lane_of run lanes lane }
@@ -60,10 +63,10 @@ pub fn lane_of(run: Run, lanes: u64, lane: u64) -> Run
     let rule = rule_of(g, lanes);
     Run {
         generator: Generator {
-            width: g.width,
             multiplier: rule.factor,
             increment: rule.offset,
             seed,
+            ..g
         },
         first: 0,
         count: count_of(run.count, lanes, lane),

@@ -8,6 +8,7 @@ use orbits::kinds::orbit_of;
 use runs::Run;
 
 // How many different numbers it shows, read off the generator's orbit.
+#[tactic(auto, using(runs::proofs::Runs::valid_run, crate::proofs::Varieties::variety_is))]
 pub fn variety_of(run: Run) -> u64
     requires { run_refusal run ≡ 0 }
     ensures { result ≡ variety_of run }

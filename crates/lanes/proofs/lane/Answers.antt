@@ -1,6 +1,6 @@
 -- `lanes::lane` meets its contract.
-use Rattle.refusals.proofs.Replies.{number_accepted, number_refused}
-use Rattle.lanes.proofs.Promises.{lane_refused, lane_given}
+use Rattle.refusals.proofs.Replies.{number_accepted}
+use Rattle.lanes.proofs.Promises.{lane_given}
 use Rattle.lanes.proofs.lane.Goals as goal
 
 pub returns : goal.returns

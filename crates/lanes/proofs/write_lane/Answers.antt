@@ -1,5 +1,5 @@
 -- `lanes::write_lane` meets its contract: the lane is an accepted run, so that of what writing a line refuses only 8 is left.
-use Rattle.refusals.proofs.Replies.{number_accepted, number_refused}
+use Rattle.refusals.proofs.Replies.{number_accepted}
 use Rattle.lanes.proofs.Promises.{write_lane_refused, write_lane_written}
 use Rattle.std.proofs.Common.{rules}
 use Rattle.lanes.proofs.write_lane.Goals as goal

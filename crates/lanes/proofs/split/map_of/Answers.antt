@@ -1,6 +1,5 @@
 -- `lanes::split::map_of` meets its contract: 8 steps and 8 more are 16.
 use mathlib.Core.Path.{sym}
-use native.Mathlib.Omega.{arith}
 use Rattle.affine.proofs.Walking.{walks_as, walks_add}
 use Rattle.lanes.proofs.split.map_of.Goals as goal
 

@@ -17,6 +17,8 @@ pub struct Response<'a> {
 }
 
 // The outcome for what was read of standard input. The file is opened, and read into `buf`, only if there is a question.
+// `runshow_io` has these steps too: one function for both needs a trait for a program's question, its outcome and the definitions of
+// both, and an impl of it in each program, so it is no plainer than the few lines.
 pub fn respond<'a>(rt: &impl Files, input: Input<'_>, buf: &'a mut [u8]) -> Response<'a>
     requires in_bounds { 22 ≤ input.room }
     requires in_bounds_2 { 65537 ≤ length buf.old }

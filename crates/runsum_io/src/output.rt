@@ -27,6 +27,7 @@ pub fn print_output<W: Write, E: Write>(output: &mut W, errors: &mut E, archive:
 
 // Writes it from the first byte of the buffer on and answers how many bytes it wrote. An archive has at most 65,536 bytes,
 // so 65,537 show that it is too long; the text has at most twice as many bytes as the archive and 27 more.
+#[tactic(auto, using(crate::proofs::Deciding::output_read, crate::proofs::Deciding::output_unread))]
 pub fn write_output(buf: &mut [u8], archive: Input<'_>) -> usize
     requires in_bounds { 131099 ≤ length buf.old }
     requires in_bounds_2 { 65537 ≤ archive.room }

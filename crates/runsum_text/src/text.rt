@@ -42,6 +42,7 @@ fn write_runs(buf: &mut [u8], archive: &[u8]) -> usize
 }
 
 // The line of the total.
+#[tactic(auto, using(fields::proofs::FrontWriting::line_behind))]
 fn write_total(buf: &mut [u8], total: u64) -> usize
     requires { length (total_text total) ≤ length buf.old }
     ensures { FrontWritten (total_text total) buf.old buf.new result }
@@ -51,6 +52,7 @@ fn write_total(buf: &mut [u8], total: u64) -> usize
 }
 
 // The whole text of an accepted archive, whose total is known.
+#[tactic(auto, using(crate::proofs::Writing::runs_room, crate::proofs::Writing::total_room))]
 pub fn write_text(buf: &mut [u8], archive: &[u8], total: u64) -> usize
     requires archive_value { (check_of archive.now).refusal ≡ 0 }
     requires total_value { total ≡ total_of (runs_in archive.now) }

@@ -6,7 +6,7 @@ use Rattle.notices.specs.declared.notice.Notice.{Notice}
 use Rattle.notices.specs.declared.notice.Notice.TheVariants.{NotFound, Refused, BadQuestion, Unread}
 use Rattle.archive_io.specs.Source.{Source, holds, unreadable}
 use Rattle.questions.specs.Question.{is_question, numbers_asked}
-use Rattle.runfind_output.specs.declared.output.Location.{Location}
+use Rattle.lookup.specs.declared.location.Location.{Location}
 
 -- A question has one field.
 abbrev pub asked_of : Source → Option ℕ

@@ -3,17 +3,17 @@ ghost use Rattle.std.specs.Prelude.{◌≡◌};
 ghost use Rattle.lookup.specs.Lookup.{lookup_of};
 ghost use Rattle.runfind_answer.specs.Decision.{outcome_of};
 
-use lookup::LookupAnswer;
+use archive::LineRefusal;
 use notices::notice::Notice;
 use refusals::number;
-use runfind_output::output::{Location, Outcome};
+use runfind_output::output::Outcome;
 
+#[tactic(auto, using(crate::proofs::Answering::outcome_found, crate::proofs::Answering::outcome_refused))]
 pub fn answer(bytes: &[u8], value: u64) -> Outcome
     ensures { result ≡ outcome_of (lookup_of bytes.now value) }
 {
     match lookup::lookup(bytes, value) {
-        LookupAnswer::At(line, position) => Ok(Location { line, position }),
-        LookupAnswer::Nowhere => Err(Notice::NotFound),
-        LookupAnswer::Refused(refusal, line) => Err(Notice::Refused(number(refusal), line)),
+        Ok(found) => found.ok_or(Notice::NotFound),
+        Err(LineRefusal { refusal, line }) => Err(Notice::Refused(number(refusal), line)),
     }
 }

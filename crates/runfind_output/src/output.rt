@@ -5,15 +5,9 @@ ghost use Rattle.fields.specs.Codec.{FrontWritten};
 ghost use Rattle.runfind_output.specs.Output.{outcome_line};
 
 use archive_io::output::print;
+use lookup::Location;
 use notices::notice::{Notice, write_notice, write_pair};
 use std::io::Write;
-
-// The number of a line and a position of its run.
-#[derive(Clone, Copy)]
-pub struct Location {
-    pub line: u64,
-    pub position: u64,
-}
 
 // The location found, or what is told in its place.
 pub type Outcome = Result<Location, Notice>;

@@ -6,7 +6,6 @@ use Prim.Native.Nat.{ℕ, suc, ◌≤◌, ◌<◌}
 use native.Mathlib.Omega.{arith}
 use lib.ListN.{length}
 use borrow.Author.Tests.{eq-eqb, ne_eqb, lt-ltb, le-ltb}
-use Rattle.refusals.specs.declared.Refusal.{Refusal}
 use Rattle.refusals.specs.Refusals.{number_of}
 use Rattle.refusals.proofs.Replies.{number_suc}
 use Rattle.runs.specs.declared.Run.{Run}
@@ -15,8 +14,7 @@ use Rattle.lines.specs.ReadLine.{read_of}
 use Rattle.fields.specs.Line.{numbers_from, is_line}
 use Rattle.archive_line.specs.declared.Part.{Part as LinePart}
 use Rattle.archive_line.proofs.PartOfLine.{part_none}
-use Rattle.archive.specs.declared.ArchiveCheck.{ArchiveCheck}
-use Rattle.archive.specs.declared.ArchiveCheck.TheVariants as verdict
+use Rattle.archive.specs.declared.LineRefusal.{LineRefusal}
 use Rattle.archive.specs.Check.{CheckReply, refused_at, plain_check, check_of, CheckPromise}
 use Rattle.archive_line.specs.Line.{line_at, PartPromise}
 use Rattle.archive.proofs.Checking.{check_accepted, long_check}
@@ -53,16 +51,16 @@ empty_run : (read_of []).run ≡ no_run
 unfolding read_of is_line numbers_from
 empty_run = refl
 
-module _ {bytes : List ℕ} {check : ArchiveCheck} (p : CheckPromise bytes (plain_check check)) (line first many : ℕ) where
-  pub answer_refused : {x : Refusal} {n at : ℕ} → check ≡ verdict.Refused x at → n ≡ number_of x →
-      Err (Refused n at) ≡ outcome_of bytes line first many
-  answer_refused {x} {n} {at} e same =
-      let k = number_suc x in
-      ap (λ (m : ℕ). Err (Refused m at)) (same ∙ k.1)
+module _ {bytes : List ℕ} {check : Result (Unit {0}) LineRefusal} (p : CheckPromise bytes (plain_check check)) (line first many : ℕ) where
+  pub answer_refused : {r : LineRefusal} {n : ℕ} → check ≡ Err r → n ≡ number_of r.refusal →
+      Err (Refused n r.line) ≡ outcome_of bytes line first many
+  answer_refused {r} {n} e same =
+      let k = number_suc r.refusal in
+      ap (λ (m : ℕ). Err (Refused m r.line)) (same ∙ k.1)
       ∙ outcome_declined bytes line first many
-      (sym p.equals ∙ ap (λ (c : ArchiveCheck). plain_check c) e ∙ ap (λ (m : ℕ). refused_at m at) k.1)
+      (sym p.equals ∙ ap (λ (c : Result (Unit {0}) LineRefusal). plain_check c) e ∙ ap (λ (m : ℕ). refused_at m r.line) k.1)
 
-  module _ (e : check ≡ verdict.Accepted) where
+  module _ (e : check ≡ Ok tt) where
     accepted : part_of_run (read_of (line_at bytes line)).run first many ≡ outcome_of bytes line first many
     unfolding outcome_of
     accepted = let z = check_accepted e p in rw (z, outcome_of)

@@ -3,7 +3,7 @@ ghost use Rattle.std.specs.Prelude.{◌≡◌};
 ghost use Rattle.runshow_answer.specs.Decision.{outcome_of, part_of_run};
 
 use crate::decision::Question;
-use archive::ArchiveCheck;
+use archive::LineRefusal;
 use archive_line::by_number::part_of_line;
 use lines::accepted::accepted_run;
 use notices::notice::Notice;
@@ -23,16 +23,16 @@ pub fn part_of_run(run: Run, first: u64, many: u64) -> Outcome
 }
 
 // The archive is checked once: the line asked for is one of its lines, or it is not there.
+#[tactic(auto, using(crate::proofs::Answering::answer_refused))]
 pub fn answer(bytes: &[u8], question: Question) -> Outcome
     ensures { result ≡ outcome_of bytes.now question.line question.first question.many }
 {
-    if let ArchiveCheck::Refused(refusal, line) = archive::checked(bytes) {
+    if let Err(LineRefusal { refusal, line }) = archive::checked(bytes) {
         return Err(Notice::Refused(number(refusal), line));
     }
-    let part = part_of_line(bytes, question.line);
-    if part.length == 0 {
+    let Some(part) = part_of_line(bytes, question.line) else {
         return Err(Notice::NotFound);
-    }
+    };
     let line = &bytes[part.start..part.start + part.length];
     part_of_run(accepted_run(line), question.first, question.many)
 }

@@ -6,11 +6,11 @@ use Prim.Native.Nat.{ℕ, suc, ◌≤◌}
 use native.Mathlib.Omega.{arith}
 use lib.ListN.{length}
 use Rattle.fields.specs.Codec.{FrontWritten}
-use Rattle.refusals.specs.declared.Refusal.{Refusal}
 use Rattle.refusals.specs.Refusals.{number_of}
 use Rattle.refusals.proofs.Replies.{number_suc}
-use Rattle.summary.specs.declared.SummaryAnswer.{SummaryAnswer}
-use Rattle.summary.specs.declared.SummaryAnswer.TheVariants as summary
+use Rattle.std.proofs.Common.{Result, Ok, Err}
+use Rattle.archive.specs.declared.LineRefusal.{LineRefusal}
+use Rattle.summary.specs.declared.totals.Totals.{Totals}
 use Rattle.summary.specs.declared.SummaryReply.{SummaryReply}
 use Rattle.archive.specs.Archive.{runs_in}
 use Rattle.archive.specs.Check.{check_of}
@@ -43,16 +43,16 @@ output_declined bytes {n} e =
     rw (number, output_of) (ap (λ (line : ℕ). notice_line (Refused (suc n) line)) (ap (λ (r : SummaryReply). r.line) e))
 
 -- The answer of the call.
-module _ {bytes : List ℕ} (answer : SummaryAnswer) (p : SummaryPromise bytes (plain_summary answer)) where
-  module _ {lines total : ℕ} (e : answer ≡ summary.Sum lines total) where
-    given : summary_given lines total ≡ summary_of bytes
-    given = ap (λ (a : SummaryAnswer). plain_summary a) (sym e) ∙ p.equals
+module _ {bytes : List ℕ} (answer : Result Totals LineRefusal) (p : SummaryPromise bytes (plain_summary answer)) where
+  module _ {totals : Totals} (e : answer ≡ Ok totals) where
+    given : summary_given totals.line_count totals.total ≡ summary_of bytes
+    given = ap (λ (a : Result Totals LineRefusal). plain_summary a) (sym e) ∙ p.equals
 
     none : (summary_of bytes).refusal ≡ 0
     none = sym (ap (λ (r : SummaryReply). r.refusal) given)
 
     pub text_asked : {size : ℕ} → 131099 ≤ size →
-        ((check_of bytes).refusal ≡ 0) × ((total ≡ total_of (runs_in bytes)) × (length (summary_text bytes) ≤ size))
+        ((check_of bytes).refusal ≡ 0) × ((totals.total ≡ total_of (runs_in bytes)) × (length (summary_text bytes) ≤ size))
     text_asked {size} h =
         let sums = summary_sums bytes none in
         let room : length (summary_text bytes) ≤ size =
@@ -65,14 +65,14 @@ module _ {bytes : List ℕ} (answer : SummaryAnswer) (p : SummaryPromise bytes (
         subst (λ (text : List ℕ). FrontWritten text before after n)
         (sym (output_text bytes none)) w
 
-  pub refusal_told : {x : Refusal} {number line : ℕ} {before after : List ℕ} {n : ℕ} → answer ≡ summary.Refused x line →
-      number ≡ number_of x → FrontWritten (notice_line (Refused number line)) before after n →
+  pub refusal_told : {r : LineRefusal} {number : ℕ} {before after : List ℕ} {n : ℕ} → answer ≡ Err r →
+      number ≡ number_of r.refusal → FrontWritten (notice_line (Refused number r.line)) before after n →
       FrontWritten (output_of bytes) before after n
-  refusal_told {x} {number} {line} {before} {after} {n} e same w =
-      let k = number_suc x in
-      let declined = sym p.equals ∙ ap (λ (a : SummaryAnswer). plain_summary a) e ∙ ap (λ (m : ℕ). summary_refused m line) k.1 in
+  refusal_told {r} {number} {before} {after} {n} e same w =
+      let k = number_suc r.refusal in
+      let declined = sym p.equals ∙ ap (λ (a : Result Totals LineRefusal). plain_summary a) e ∙ ap (λ (m : ℕ). summary_refused m r.line) k.1 in
       subst (λ (text : List ℕ). FrontWritten text before after n)
-      (ap (λ (m : ℕ). notice_line (Refused m line)) (same ∙ k.1) ∙ sym (output_declined bytes declined))
+      (ap (λ (m : ℕ). notice_line (Refused m r.line)) (same ∙ k.1) ∙ sym (output_declined bytes declined))
       w
 
 -- For all that the file may hold.

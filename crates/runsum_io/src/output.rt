@@ -3,13 +3,13 @@ ghost use Rattle.std.specs.Prelude.{◌≤◌, length};
 ghost use Rattle.fields.specs.Codec.{FrontWritten};
 ghost use Rattle.runsum_io.specs.Output.{OutputPromise, output_of};
 
+use archive::LineRefusal;
 use archive_io::input::Input;
 use archive_io::output::print;
 use notices::notice::{Notice, write_notice};
 use refusals::number;
 use runsum_text::text::write_text;
 use std::io::Write;
-use summary::SummaryAnswer;
 
 // Prints it in one piece.
 pub fn print_output<W: Write, E: Write>(output: &mut W, errors: &mut E, archive: Input<'_>)
@@ -45,8 +45,8 @@ fn write_answer(buf: &mut [u8], archive: &[u8]) -> usize
     ensures { FrontWritten (output_of archive.now) buf.old buf.new result }
 {
     match summary::summary(archive) {
-        SummaryAnswer::Sum(_, total) => write_text(buf, archive, total),
-        SummaryAnswer::Refused(refusal, line) => {
+        Ok(totals) => write_text(buf, archive, totals.total),
+        Err(LineRefusal { refusal, line }) => {
             write_notice(buf, Notice::Refused(number(refusal), line))
         }
     }

@@ -1,32 +1,24 @@
 -- `answer::answer` meets its contract: the archive is refused, has no such line, or the line is accepted and its run is read.
+use Rattle.std.proofs.Common.{refl, arith}
 use Rattle.archive.proofs.Checking.{check_accepted}
 use Rattle.archive_line.proofs.PartOfLine.{part_accepted, part_run}
-use Rattle.runshow_answer.proofs.Answering.{answer_refused, answer_none, answer_part}
+use Rattle.runshow_answer.proofs.Answering.{answer_none, answer_part}
 use Rattle.runshow_answer.proofs.answer.answer.Goals as goal
 
-pub returns-in-Refused : goal.returns-in-Refused
-returns-in-Refused c =
-    answer_refused c.checked.ensures _ _ _ c.in-Refused.is
-    c.number.ensures
-
-pub part_of_line-part-requires : goal.part_of_line-part-requires
-part_of_line-part-requires c = check_accepted c.in_default.is c.checked.ensures
-
-pub returns-then-part-eq0 : goal.returns-then-part-eq0
-returns-then-part-eq0 c =
-    answer_none c.checked.ensures _ _ _ c.in_default.is c.part_of_line-part.ensures
-    c.if-part-eq0.true
+pub returns-in_default-part_of_line : goal.returns-in_default-part_of_line
+returns-in_default-part_of_line c =
+    let q = c.args.question in
+    answer_none c.checked.ensures q.line q.first q.many c.in_default.is c.in_default-part_of_line.ensures.part refl
 
 pub accepted_run-requires : goal.accepted_run-requires
 accepted_run-requires c =
-    part_accepted c.part_of_line-part.result c.part_of_line-part.ensures
-    (check_accepted c.in_default.is c.checked.ensures)
-    c.if-part-eq0.false
+    part_accepted c.in-Some.part c.in-Some.ensures.part (check_accepted c.in_default.is c.checked.ensures)
+    (λ z. omega (arith, z, c.in-Some.ensures.some))
 
 pub returns : goal.returns
 returns c =
-    let check = c.checked.ensures in
-    let run =
-    part_run c.part_of_line-part.result c.part_of_line-part.ensures (check_accepted c.in_default.is check)
-    c.if-part-eq0.false c.accepted_run.ensures in
-    answer_part check _ _ _ c.in_default.is run c.part_of_run.ensures
+    let q = c.args.question in
+    answer_part c.checked.ensures q.line q.first q.many c.in_default.is
+    (part_run c.in-Some.part c.in-Some.ensures.part (check_accepted c.in_default.is c.checked.ensures)
+    (λ z. omega (arith, z, c.in-Some.ensures.some)) c.accepted_run.ensures)
+    c.part_of_run.ensures

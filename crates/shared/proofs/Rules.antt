@@ -1,13 +1,12 @@
 -- Two runs of one rule: what the refusal table leaves of them. Whichever of the two comes first, they are accepted.
 use mathlib.Core.Path.{◌≡◌, refl, sym, ap, ◌∙◌}
-use mathlib.Core.Bool.{Bool, true, false, cond, not}
+use mathlib.Core.Bool.{Bool, true, false, not}
 use mathlib.Core.Logic.{⊎_elim}
 use Prim.Native.Nat.{ℕ, ◌%◌}
 use native.Mathlib.Omega.{arith}
 use lib.Dec.{eqb}
 use borrow.Author.Tests.{eq-eqb, ne_eqb, eqb-true, eqb-false}
 use Rattle.words.proofs.Congruence.{mod_two}
-use Rattle.refusals.specs.Refusals.{or_else}
 use Rattle.refusals.proofs.Conditions.{cond_none, or_false, or_else_none}
 use Rattle.generator.specs.declared.Generator.{Generator}
 use Rattle.generator.specs.Recurrence.{modulus, step}
@@ -55,21 +54,6 @@ module _ (g h : Generator) where
   rule_accepted r =
       rw (eq-eqb _ _ r.width, eq-eqb _ _ r.multiplier, eq-eqb _ _ r.increment, ne_eqb (g.multiplier % 2) 0 (λ z. omega (arith, r.odd)))
       refl
-
-  pub rule_refused : (OneRule g h → ⊥) → 16 ≡ rule_refusal g h
-  unfolding rule_refusal
-  rule_refused none = go (incompatible g h) refl
-    where
-      go : (b : Bool) → incompatible g h ≡ b → ◌≡◌ {A = ℕ} 16 (cond b 16 0)
-      go true e = refl
-      go false e = absurd (none (compatible e))
-
--- three checks, in the order of the table
-pub in_order : (first second : Run) {one other rule later told : ℕ} → one ≡ run_refusal first → other ≡ run_refusal second →
-    rule ≡ rule_refusal first.generator second.generator → later ≡ or_else other rule → told ≡ or_else one later →
-    told ≡ shared_refusal first second
-unfolding shared_refusal
-in_order first second a b c l e = rw (← a, ← b, ← c, ← l) e
 
 -- one rule has one step
 pub same_step : {g h : Generator} → OneRule g h → (x : ℕ) → step h x ≡ step g x

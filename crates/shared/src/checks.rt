@@ -8,19 +8,15 @@ use refusals::Refusal;
 use runs::{Run, checked};
 
 // Both generators have one rule, with an odd multiplier.
+#[tactic(auto, unfolding(crate::specs::Shared::rule_refusal))]
 pub fn rule_checked(g: Generator, h: Generator) -> Result<(), Refusal>
     ensures { check_number result ≡ rule_refusal g h }
 {
-    if g.width != h.width {
-        return Err(Refusal::Incompatible);
-    }
-    if g.multiplier != h.multiplier {
-        return Err(Refusal::Incompatible);
-    }
-    if g.increment != h.increment {
-        return Err(Refusal::Incompatible);
-    }
-    if g.multiplier % 2 == 0 {
+    if g.width != h.width
+        || g.multiplier != h.multiplier
+        || g.increment != h.increment
+        || g.multiplier % 2 == 0
+    {
         return Err(Refusal::Incompatible);
     }
     Ok(())

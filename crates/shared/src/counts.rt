@@ -10,6 +10,7 @@ use sequences::Indices;
 
 // The second seed's index among the first generator's elements tells how far ahead the second run starts on the circle that
 // both go round; where it has none they are on different circles.
+#[tactic(auto, using(crate::proofs::Shares::first_accepted, crate::proofs::Shares::shared_nothing, crate::proofs::Shares::index_within))]
 pub fn shared_of(first: Run, second: Run) -> u64
     requires { shared_refusal first second ≡ 0 }
     ensures { result ≡ shared_of first second }

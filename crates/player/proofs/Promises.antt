@@ -1,13 +1,13 @@
 -- The ways out of a call. What an accepted call leaves of the record stands for what the plain player would be: each field is
 -- changed alike, and a mark that is returned to is set. A declined call leaves the record, so the plain player too.
 use mathlib.Core.Path.{◌≡◌, refl, sym, ap, subst, ◌∙◌}
-use mathlib.Core.Bool.{Bool, true, false, cond, not}
+use mathlib.Core.Bool.{Bool, true, false, cond}
 use mathlib.Core.List.{List, [], ◌∷◌, map}
 use mathlib.Core.Option
 use mathlib.Core.Option.{Option, none}
 use Prim.Native.Nat.{ℕ, zero, suc, ◌+◌, ◌≤◌, ◌<◌}
 use native.Mathlib.Omega.{arith}
-use lib.Dec.{T, eqb, leb}
+use lib.Dec.{leb}
 use borrow.Author.Tests.{leb-false, le-leb, lt-leb}
 use lib.ListN.{get_or, set, get_or-map}
 use Rattle.refusals.specs.declared.Refusal.{Refusal}

@@ -17,7 +17,7 @@ pub mod states;
 
 // A position to return to. `set` is 0 while there is none; any other number stands for set.
 #[repr(C)]
-#[derive(Clone, Copy)]
+#[derive(Clone, Copy, Default)]
 pub struct Mark {
     pub set: u64,
     pub position: u64,
@@ -36,18 +36,12 @@ pub struct Player {
 pub fn opened(before: Player, run: Run) -> Result<Player, Refusal>
     ensures { PlayerPromise (Open run) before (left before result) (told (refusal_told result)) }
 {
-    let unset = Mark {
-        set: 0,
-        position: 0,
-    };
-    let marks = [unset; 4];
-    let fresh = Player {
+    runs::checked(run)?;
+    Ok(Player {
         run,
         position: 0,
-        marks,
-    };
-    runs::checked(run)?;
-    Ok(fresh)
+        marks: [Mark::default(); 4],
+    })
 }
 
 // Moves on by this many positions.
@@ -80,15 +74,12 @@ pub fn marked(player: Player, mark: u64) -> Result<Player, Refusal>
     if 3 < mark {
         return Err(Refusal::BookmarkInvalid);
     }
-    let run = player.run;
-    let position = player.position;
     let mut marks = player.marks;
-    marks[mark as usize] = Mark { set: 1, position };
-    Ok(Player {
-        run,
-        position,
-        marks,
-    })
+    marks[mark as usize] = Mark {
+        set: 1,
+        position: player.position,
+    };
+    Ok(Player { marks, ..player })
 }
 
 // Returns to a mark that is set. Its position is looked at here, and not before.
@@ -99,8 +90,7 @@ pub fn returned(player: Player, to: u64) -> Result<Player, Refusal>
     if 3 < to {
         return Err(Refusal::BookmarkInvalid);
     }
-    let marks = player.marks;
-    let target = marks[to as usize];
+    let target = player.marks[to as usize];
     if target.set == 0 {
         return Err(Refusal::BookmarkInvalid);
     }

@@ -1,5 +1,4 @@
 -- `player::shown` meets its contract: a record that passes the check has a position on its run, so no index is above 2^64 - 1.
-use mathlib.Core.Path.{◌∙◌}
 use native.Mathlib.Omega.{arith}
 use Rattle.refusals.proofs.Replies.{number_accepted, value_given}
 use Rattle.runs.specs.Run.{shows}

@@ -16,6 +16,7 @@ fn places_of(width: u64) -> u64
 
 // The deviate of an element, less one half. Both casts are of whole numbers up to 2^53, the quotient is by a power of two, and the
 // difference has no more digits than a float: nothing is rounded.
+#[tactic(auto, using(crate::proofs::ExactDeviates::kept_fits, crate::proofs::ExactDeviates::whole_fits, crate::proofs::ExactDeviates::machine_made))]
 pub fn deviate(x: u64, width: u64) -> f64
     requires { (width ≤ 64) × (x < 2 ^ width) }
     ensures { result ≡ deviate_of width x }
@@ -27,6 +28,7 @@ pub fn deviate(x: u64, width: u64) -> f64
 }
 
 // The deviates of an accepted fix: one jump to the position of the first, and one step to that of the second.
+#[tactic(auto, using(crate::proofs::Promises::valid_fix, crate::proofs::Promises::is_element, crate::proofs::Promises::east_shown, crate::proofs::Promises::north_shown, crate::proofs::Promises::shown_below))]
 pub fn fix_of(run: Run, fix: u64) -> Fix
     requires { fix_refusal run fix ≡ 0 }
     ensures { result ≡ fix_of run fix }

@@ -14,7 +14,7 @@ pub mod deviates;
 pub mod plain;
 
 #[repr(C)]
-#[derive(Clone, Copy)]
+#[derive(Clone, Copy, Default)]
 pub struct Fix {
     pub east: f64,
     pub north: f64,
@@ -22,7 +22,7 @@ pub struct Fix {
 
 // The fix is +0.0 twice beside a refusal.
 #[repr(C)]
-#[derive(Clone, Copy)]
+#[derive(Clone, Copy, Default)]
 pub struct FixReply {
     pub refusal: u64,
     pub fix: Fix,

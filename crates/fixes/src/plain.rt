@@ -13,10 +13,7 @@ impl From<Result<Fix, Refusal>> for FixReply {
             Ok(fix) => FixReply { refusal: 0, fix },
             Err(refusal) => FixReply {
                 refusal: number(refusal),
-                fix: Fix {
-                    east: 0.0,
-                    north: 0.0,
-                },
+                ..FixReply::default()
             },
         }
     }

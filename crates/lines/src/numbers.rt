@@ -12,16 +12,16 @@ use runs::Run;
 pub fn run_of(numbers: [u64; 6]) -> Run
     ensures { result ≡ run_of numbers }
 {
-    let generator = Generator {
-        width: numbers[0],
-        multiplier: numbers[1],
-        increment: numbers[2],
-        seed: numbers[3],
-    };
+    let [width, multiplier, increment, seed, first, count] = numbers;
     Run {
-        generator,
-        first: numbers[4],
-        count: numbers[5],
+        generator: Generator {
+            width,
+            multiplier,
+            increment,
+            seed,
+        },
+        first,
+        count,
     }
 }
 

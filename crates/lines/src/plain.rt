@@ -7,7 +7,7 @@ use generator::Generator;
 use refusals::{Refusal, number};
 use runs::Run;
 
-// The run of zeros.
+// The run of zeros. It has no `Default`, since no call accepts it.
 const NO_RUN: Run = Run {
     generator: Generator {
         width: 0,

@@ -1,14 +1,14 @@
 -- What reading the question shows: it is a line, so the laws of lines tell whether the bytes are one, and a line of n fields
 -- has at most 21 * n bytes.
 use mathlib.Core.Path.{◌≡◌, refl, sym, ap, ◌∙◌}
-use mathlib.Core.Bool.{Bool, true, false}
+use mathlib.Core.Bool.{true, false}
 use mathlib.Core.List.{List, [], ◌∷◌}
 use Prim.Native.Nat.{ℕ, zero, suc, ◌*◌, ◌≤◌, ◌<◌}
 use native.Mathlib.Omega.{arith}
 use lib.ListN.{length, get_or}
 use Rattle.std.proofs.Common.{Option, None, Some, ◌≢◌}
 use Rattle.fields.specs.Line.{AllBelow, fields_line, numbers_from, is_line}
-use Rattle.fields.specs.Codec.{LineRead}
+use Rattle.fields.specs.Codec.{ArrayRead}
 use Rattle.fields.proofs.Codec.{line_bound}
 use Rattle.fields.proofs.Numbers.{numbers_line, line_is, no_line}
 use Rattle.archive_io.specs.declared.input.Rest.{Rest}
@@ -45,23 +45,19 @@ question_promise unreadable n =
       of_others = λ none. refl;
     }
 
--- The ways out of reading it.
-module _ {input bytes before numbers : List ℕ} {rest : Rest} {answer : Bool} (l : LineRead bytes before numbers answer)
-    (readable : (bytes ≡ input) × (rest ≢ Failed)) {room n : ℕ} (full : Enough room (length input) rest)
-    (enough : suc (21 * n) ≤ room) (size : length before ≡ n) where
-  asked_read : {given : Option (List ℕ)} → given ≡ question_of n (holds bytes) → AskPromise input rest n given
-  asked_read {given} e =
-      record {
-        is = λ stdin r.
-            let same : given ≡ question_of n stdin =
-            e
-            ∙ ap (λ (bs : List ℕ). question_of n (holds bs)) readable.0
-            ∙ sym (read_decides (question_of n) {long = None} (λ bs long. rw (long_line n bs (omega arith)) refl) readable.1 full enough stdin r) in
-            rw same (question_promise stdin n);
-      }
+-- What reading the numbers gives is the answer.
+answer_is : (bytes : List ℕ) (n : ℕ) (answer : Option (List ℕ)) → ArrayRead bytes n answer → answer ≡ question_of n (holds bytes)
+answer_is bytes n (Some numbers) l = rw l.0 (ap (λ (vs : List ℕ). Some vs) l.1)
+answer_is bytes n None l = rw l refl
 
-  pub ask_no : answer ≡ false → AskPromise input rest n None
-  ask_no f = asked_read (rw (← size, ← l.is_line_lem, f) refl)
-
-  pub ask_yes : answer ≡ true → AskPromise input rest n (Some numbers)
-  ask_yes t = asked_read (rw (← size, ← l.is_line_lem, t) (ap (λ (vs : List ℕ). Some vs) (l.numbers t)))
+pub ask_read : (bytes : List ℕ) {input : List ℕ} {rest : Rest} {room : ℕ} (n : ℕ) (answer : Option (List ℕ)) → ArrayRead bytes n answer →
+    (bytes ≡ input) × (rest ≢ Failed) → Enough room (length input) rest → suc (21 * n) ≤ room → AskPromise input rest n answer
+ask_read bytes {input} {rest} n answer l readable full enough =
+    record {
+      is = λ stdin r.
+          let same : answer ≡ question_of n stdin =
+          answer_is bytes n answer l
+          ∙ ap (λ (bs : List ℕ). question_of n (holds bs)) readable.0
+          ∙ sym (read_decides (question_of n) {long = None} (λ bs long. rw (long_line n bs (omega arith)) refl) readable.1 full enough stdin r) in
+          rw same (question_promise stdin n);
+    }

@@ -12,9 +12,5 @@ pub fn ask<const N: usize>(input: Input<'_>) -> Option<[u64; N]>
     ensures { AskPromise input.entry.bytes.now input.entry.rest N result }
 {
     let bytes = input.readable()?;
-    let mut numbers = [0; N];
-    if !line::read(bytes, &mut numbers) {
-        return None;
-    }
-    Some(numbers)
+    line::read_array(bytes)
 }

@@ -44,7 +44,7 @@ unread_here k line lines d = go (read_of line).refusal refl
     go (suc n) e = rw (e, first_unread)
 
 -- where none is refused, neither is the first, nor any behind it
-first_read : (k : ℕ) (line : List ℕ) (lines : List (List ℕ)) → (first_unread k (line ∷ lines)).refusal ≡ 0 →
+pub first_read : (k : ℕ) (line : List ℕ) (lines : List (List ℕ)) → (first_unread k (line ∷ lines)).refusal ≡ 0 →
     ((read_of line).refusal ≡ 0) × ((first_unread (suc k) lines).refusal ≡ 0)
 first_read k line lines e =
     by_cases (ℕ_discrete (read_of line).refusal 0)

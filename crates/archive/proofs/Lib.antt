@@ -7,4 +7,5 @@ pub mod Checking
 mod TwinRefusal
 mod LineByLine
 pub mod Runs
+pub mod Walking
 pub mod Examples

@@ -121,16 +121,16 @@ module _ {at end : ℕ} (bytes : List ℕ) (l : at < length bytes) (e : end ≡ 
 
 -- Lines.
 
-line_ends : {b : ℕ} (bytes : List ℕ) → b ≡ 10 → lines_of (b ∷ bytes) ≡ (b ∷ []) ∷ lines_of bytes
+pub line_ends : {b : ℕ} (bytes : List ℕ) → b ≡ 10 → lines_of (b ∷ bytes) ≡ (b ∷ []) ∷ lines_of bytes
 unfolding lines_of
 line_ends {b} bytes e = rw (eq-eqb b 10 e, lines_of)
 
-line_goes_on : {b : ℕ} (bytes : List ℕ) → (b ≡ 10 → ⊥) → lines_of (b ∷ bytes) ≡ prepend b (lines_of bytes)
+pub line_goes_on : {b : ℕ} (bytes : List ℕ) → (b ≡ 10 → ⊥) → lines_of (b ∷ bytes) ≡ prepend b (lines_of bytes)
 unfolding lines_of
 line_goes_on {b} bytes d = rw (ne_eqb b 10 d, lines_of)
 
 -- the first part and the lines of what follows it
-lines_first : (bytes : List ℕ) → 0 < length bytes → lines_of bytes ≡ first_part bytes ∷ lines_of (drop (length (first_part bytes)) bytes)
+pub lines_first : (bytes : List ℕ) → 0 < length bytes → lines_of bytes ≡ first_part bytes ∷ lines_of (drop (length (first_part bytes)) bytes)
 lines_first [] l = absurd (omega arith)
 lines_first (b ∷ []) l =
     by_cases (ℕ_discrete b 10) (λ e. rw (part_ends [] e) (line_ends [] e))

@@ -1,10 +1,20 @@
 // The parts of an archive, each up to its byte 10, and the runs in them.
 ghost use Rattle.std.specs.Prelude.{◌≡◌, ◌+◌, ◌<◌, ◌≤◌, ◌==◌, length, drop, position};
 ghost use Rattle.lines.specs.ReadLine.{read_of};
-ghost use Rattle.archive.specs.Parts.{first_part, LineRun};
+ghost use Rattle.std.specs.Iterator.{YieldsFirst, item_count};
+ghost use Rattle.archive.specs.Archive.{lines_of, runs_in};
+ghost use Rattle.archive.specs.Check.{check_of};
+ghost use Rattle.archive.specs.Parts.{first_part, places_left, AllRead, LineRun};
 
 use lines::accepted::accepted_run;
 use runs::Run;
+
+// Where a part stands.
+#[derive(Clone, Copy)]
+pub struct Place {
+    pub start: usize,
+    pub end: usize,
+}
 
 // A run, and where its line ends.
 #[derive(Clone, Copy)]
@@ -48,4 +58,70 @@ pub fn next_run(archive: &[u8], at: usize) -> NextRun
         run: accepted_run(&archive[at..end]),
         end,
     }
+}
+
+// The places of the parts of some bytes, one after the other.
+#[derive(Drop)]
+pub struct Places<'a> {
+    bytes: &'a [u8],
+    at: usize,
+}
+
+impl<'a> Iterator for Places<'a> {
+    type Item = Place;
+
+    ghost next_gives = { YieldsFirst (λ s. places_left s.bytes.now s.at) };
+
+    ghost remaining = { item_count (λ s. places_left s.bytes.now s.at) };
+
+    fn next(&mut self) -> Option<Place> {
+        let start = self.at;
+        if start >= self.bytes.len() {
+            return None;
+        }
+        let end = part_end(self.bytes, start);
+        self.at = end;
+        Some(Place { start, end })
+    }
+}
+
+pub fn places_of<'a>(bytes: &'a [u8]) -> Places<'a>
+    ensures bytes { result.bytes.now ≡ bytes.now }
+    ensures at { result.at ≡ 0 }
+{
+    Places { bytes, at: 0 }
+}
+
+// The runs of an accepted archive, one after the other.
+#[derive(Drop)]
+pub struct Runs<'a> {
+    rest: &'a [u8],
+}
+
+impl<'a> Iterator for Runs<'a> {
+    type Item = Run;
+
+    ghost can_next = { λ s. AllRead (lines_of s.rest.now) };
+
+    ghost next_gives = { YieldsFirst (λ s. runs_in s.rest.now) };
+
+    ghost remaining = { item_count (λ s. runs_in s.rest.now) };
+
+    fn next(&mut self) -> Option<Run> {
+        if self.rest.is_empty() {
+            return None;
+        }
+        let next = next_run(self.rest, 0);
+        self.rest = self.rest.split_at(next.end).1;
+        Some(next.run)
+    }
+}
+
+#[tactic(auto, using(crate::proofs::Walking::all_read))]
+pub fn runs_of<'a>(archive: &'a [u8]) -> Runs<'a>
+    requires { (check_of archive.now).refusal ≡ 0 }
+    ensures rest { result.rest.now ≡ archive.now }
+    ensures read { AllRead (lines_of archive.now) }
+{
+    Runs { rest: archive }
 }

@@ -1,17 +1,13 @@
--- The lookup's loop is a walk over the lines with no state: the first run that shows the number is sought among those left.
+-- The lookup's loop is a walk over the runs with no state: the first run that shows the number is sought among those left.
 use mathlib.Core.Path.{◌≡◌, refl, sym, ap, ◌∙◌}
-use mathlib.Core.List.{List, ◌∷◌, map}
+use mathlib.Core.List.{List, [], ◌∷◌}
 use Prim.Native.Nat.{ℕ, suc, ◌+◌, ◌-◌, ◌≤◌, ◌<◌}
 use native.Mathlib.Omega.{arith}
 use lib.ListN.{length, take, drop}
 use borrow.Author.Tests.{lt-ltb, le-ltb}
 use Rattle.runs.specs.declared.Run.{Run}
-use Rattle.lines.specs.ReadLine.{run_in}
-use Rattle.archive.specs.declared.parts.NextRun.{NextRun}
-use Rattle.archive.specs.Archive.{lines_of, runs_in}
-use Rattle.archive.specs.Parts.{LineRun}
-use Rattle.archive.proofs.Folding.{Fold, fold_line, fold_next, fold_end}
-use Rattle.archive.proofs.Runs.{run_line}
+use Rattle.archive.specs.Archive.{runs_in}
+use Rattle.archive.proofs.Walking.{RunsLeft, runs_left, runs_next, runs_end}
 use Rattle.lookup.specs.declared.LookupReply.{LookupReply}
 use Rattle.lookup.specs.Lookup.{position_of, found_at, found_none, first_showing}
 
@@ -26,26 +22,17 @@ pub lookup_here : (k : ℕ) (run : Run) (runs : List Run) (y : ℕ) → position
 unfolding first_showing
 lookup_here k run runs y l = rw (lt-ltb (position_of run y) run.count l, first_showing)
 
-abbrev pub showing : ℕ → ℕ → Unit {0} → List (List ℕ) → LookupReply
-showing y k s lines = first_showing k (map run_in lines) y
+abbrev pub showing : ℕ → ℕ → Unit {0} → List Run → LookupReply
+showing y k s runs = first_showing k runs y
 
-module _ {bytes : List ℕ} (y : ℕ) {at k : ℕ} (w : Fold (showing y) tt bytes at k tt) where
-  module _ {next : NextRun} (l : at < length bytes) (r : LineRun bytes at next) where
-    -- the run that is read is the one tried
-    tried : (lines : List (List ℕ)) →
-        first_showing k (map run_in (take (next.end - at) (drop at bytes) ∷ lines)) y ≡ first_showing k (next.run ∷ map run_in lines) y
-    tried lines = ap (λ (n : Run). first_showing k (n ∷ map run_in lines) y) (run_line l r)
+module _ (y : ℕ) {bytes rest : List ℕ} {k : ℕ} (w : RunsLeft (showing y) tt bytes rest k tt) where
+  module _ {run : Run} {runs : List Run} {line : ℕ} (e : runs_in rest ≡ run ∷ runs) (n : line ≡ k) where
+    pub look_next : {rest' : List ℕ} {k' : ℕ} → runs ≡ runs_in rest' → k' ≡ line + 1 → (position_of run y < run.count → ⊥) →
+        RunsLeft (showing y) tt bytes rest' k' tt
+    look_next r q h = runs_next w e n tt r q (lookup_next line run runs y (omega (arith, h)) ∙ ap (λ (j : ℕ). first_showing j runs y) (omega arith))
 
-    pub look_next : (position_of next.run y < next.run.count → ⊥) → Fold (showing y) tt bytes next.end (k + 1) tt
-    look_next h =
-        fold_next w l r.ends tt
-        (λ lines. tried lines ∙ lookup_next k next.run (map run_in lines) y (omega (arith, h)))
+    pub look_found : {p : ℕ} → (position_of run y < run.count) × (p ≡ position_of run y) → found_at line p ≡ first_showing 1 (runs_in bytes) y
+    look_found h = ap (found_at line) h.1 ∙ sym (runs_left w e n ∙ lookup_here line run runs y h.0)
 
-    pub look_found : {p : ℕ} → (position_of next.run y < next.run.count) × (p ≡ position_of next.run y) → found_at k p ≡ first_showing 1 (runs_in bytes) y
-    look_found h =
-        let lines = lines_of (drop next.end bytes) in
-        ap (found_at k) h.1
-        ∙ sym (fold_line w l r.ends ∙ tried lines ∙ lookup_here k next.run (map run_in lines) y h.0)
-
-  pub look_end : length bytes ≤ at → found_none ≡ first_showing 1 (runs_in bytes) y
-  look_end l = sym (fold_end w l ∙ unfold first_showing in refl)
+  pub look_end : first_showing 1 (runs_in bytes) y ≡ first_showing k [] y → found_none ≡ first_showing 1 (runs_in bytes) y
+  look_end e = sym (e ∙ unfold first_showing in refl)

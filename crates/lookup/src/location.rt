@@ -5,7 +5,7 @@ ghost use Rattle.archive.specs.Check.{check_of};
 ghost use Rattle.lookup.specs.Lookup.{first_showing, plain_location};
 
 use crate::position::position_in;
-use archive::parts::next_run;
+use archive::parts::runs_of;
 
 // A line by its number, and a position of its run.
 #[derive(Clone, Copy)]
@@ -19,15 +19,10 @@ pub fn earliest(archive: &[u8], y: u64) -> Option<Location>
     requires { (check_of archive.now).refusal ≡ 0 }
     ensures { plain_location result ≡ first_showing 1 (runs_in archive.now) y }
 {
-    let mut at = 0;
-    let mut line = 1;
-    while at < archive.len() {
-        let next = next_run(archive, at);
-        if let Some(position) = position_in(next.run, y) {
+    for (run, line) in runs_of(archive).zip(1..) {
+        if let Some(position) = position_in(run, y) {
             return Some(Location { line, position });
         }
-        at = next.end;
-        line += 1;
     }
     None
 }

@@ -1,20 +1,17 @@
--- What each step of writing the text shows. The loop is a walk over the archive's lines whose state is the text so far, which
+-- What each step of writing the text shows. The loop is a walk over the archive's runs whose state is the text so far, which
 -- stands at the buffer's front: with the lines of the runs left it makes the whole. What is yet to be written is a part of the
 -- whole, so there is room for it.
 use mathlib.Core.Path.{◌≡◌, refl, sym, ap, ◌∙◌, subst}
-use mathlib.Core.List.{List, [], ◌∷◌, ◌++◌, map, append_assoc, append-nil}
+use mathlib.Core.List.{List, [], ◌∷◌, ◌++◌, append_assoc, append-nil}
 use Prim.Native.Nat.{ℕ, suc, ◌+◌, ◌-◌, ◌≤◌, ◌<◌}
+use native.Mathlib.Numerals.{add-one}
 use native.Mathlib.Omega.{arith}
 use lib.ListN.{length, take, drop, length-append}
 use Rattle.fields.specs.Codec.{FrontWritten}
 use Rattle.runs.specs.declared.Run.{Run}
-use Rattle.lines.specs.ReadLine.{run_in}
-use Rattle.archive.specs.Archive.{lines_of, runs_in}
+use Rattle.archive.specs.Archive.{runs_in}
 use Rattle.summary.specs.Summary.{total_of}
-use Rattle.archive.specs.declared.parts.NextRun.{NextRun}
-use Rattle.archive.specs.Parts.{LineRun}
-use Rattle.archive.proofs.Folding.{Fold, fold_start, fold_line, fold_next, fold_end}
-use Rattle.archive.proofs.Runs.{run_line}
+use Rattle.archive.proofs.Walking.{RunsLeft, runs_left, runs_next}
 use Rattle.fields.proofs.FrontWriting.{front_kept, line_behind}
 use Rattle.runsum_text.specs.Text.{run_text, runs_text, total_text, summary_text}
 
@@ -24,59 +21,58 @@ unfolding runs_text
 runs_first k run runs = refl
 
 -- The loop.
-abbrev texting : ℕ → List ℕ → List (List ℕ) → List ℕ
-texting k text lines = text ++ runs_text k (map run_in lines)
+abbrev pub texting : ℕ → List ℕ → List Run → List ℕ
+texting k text runs = text ++ runs_text k runs
 
--- the text of the lines before `at`, and the buffer with it
-pub record TextSoFar (bytes before buf : List ℕ) (at k n : ℕ) : Type 0 where
+-- the text of the runs before the rest, and the buffer with it
+pub record TextSoFar (bytes before buf rest : List ℕ) (k n : ℕ) : Type 0 where
   pub text : List ℕ
-  pub left : Fold texting [] bytes at k text
+  pub left : RunsLeft texting [] bytes rest k text
   pub written : FrontWritten text before buf n
 
-pub text_start : {bytes before : List ℕ} → TextSoFar bytes before before 0 1 0
-text_start = record { text = []; left = fold_start; written = record { whole = refl; count = refl } }
+pub text_start : {bytes before rest : List ℕ} {k : ℕ} → RunsLeft texting [] bytes rest k [] → TextSoFar bytes before before rest k 0
+text_start w = record { text = []; left = w; written = record { whole = refl; count = refl } }
 
-module _ {bytes before buf : List ℕ} {at k n : ℕ} (t : TextSoFar bytes before buf at k n) where
-  module _ {next : NextRun} (l : at < length bytes) (r : LineRun bytes at next) where
+module _ {bytes before buf rest : List ℕ} {k n : ℕ} (t : TextSoFar bytes before buf rest k n) where
+  module _ {run : Run} {runs : List Run} {number : ℕ} (e : runs_in rest ≡ run ∷ runs) (q : number ≡ k) where
     -- its line of the text
     abbrev line : List ℕ
-    line = run_text k next.run
+    line = run_text number run
 
     -- comes next
-    line_next : (lines : List (List ℕ)) →
-        texting k t.text (take (next.end - at) (drop at bytes) ∷ lines) ≡ texting (suc k) (t.text ++ line) lines
-    line_next lines =
-        ap (λ (q : Run). t.text ++ runs_text k (q ∷ map run_in lines)) (run_line l r)
-        ∙ ap (λ (l : List ℕ). t.text ++ l) (runs_first k next.run (map run_in lines))
-        ∙ sym (append_assoc t.text line (runs_text (suc k) (map run_in lines)))
+    line_next : texting number t.text (run ∷ runs) ≡ texting (number + 1) (t.text ++ line) runs
+    line_next =
+        ap (λ (l : List ℕ). t.text ++ l) (runs_first number run runs)
+        ∙ sym (append_assoc t.text line (runs_text (suc number) runs))
+        ∙ ap (λ (j : ℕ). (t.text ++ line) ++ runs_text j runs) (sym (add-one number))
 
     pub text_room : length (runs_text 1 (runs_in bytes)) ≤ length before →
-        (n ≤ length buf) × (n + length (run_text k next.run) ≤ length buf) × (length buf ≡ length before)
+        (n ≤ length buf) × (n + length (run_text number run) ≤ length buf) × (length buf ≡ length before)
     text_room room =
-        let rest = runs_text (suc k) (map run_in (lines_of (drop next.end bytes))) in
-        let whole : length (runs_text 1 (runs_in bytes)) ≡ length ((t.text ++ line) ++ rest) =
-        ap length (fold_line t.left l r.ends ∙ line_next (lines_of (drop next.end bytes))) in
+        let whole : length (runs_text 1 (runs_in bytes)) ≡ length ((t.text ++ line) ++ runs_text (number + 1) runs) =
+        ap length (runs_left t.left e q ∙ line_next) in
         let front = length-append t.text line in
-        let parts = length-append (t.text ++ line) rest in
+        let parts = length-append (t.text ++ line) (runs_text (number + 1) runs) in
         let kept = front_kept t.written (omega (arith, whole, front, parts)) in
         omega (arith, whole, front, parts, kept, t.written.count)
 
-    pub text_next : {part : List ℕ} {m : ℕ} → FrontWritten (run_text k next.run) (take (length buf - n) (drop n buf)) part m →
-        TextSoFar bytes before (take n buf ++ (part ++ drop (length buf - n) (drop n buf))) next.end (k + 1) (n + m)
-    text_next f =
+    pub text_next : {rest' part : List ℕ} {k' m : ℕ} → runs ≡ runs_in rest' → k' ≡ number + 1 →
+        FrontWritten (run_text number run) (take (length buf - n) (drop n buf)) part m →
+        TextSoFar bytes before (take n buf ++ (part ++ drop (length buf - n) (drop n buf))) rest' k' (n + m)
+    text_next r j f =
         record {
           text = t.text ++ line;
-          left = fold_next t.left l r.ends (t.text ++ line) line_next;
+          left = runs_next t.left e q (t.text ++ line) r j line_next;
           written = line_behind t.written f;
         }
 
-  pub text_end : length bytes ≤ at → FrontWritten (runs_text 1 (runs_in bytes)) before buf n
+  pub text_end : texting 1 [] (runs_in bytes) ≡ texting k t.text [] → FrontWritten (runs_text 1 (runs_in bytes)) before buf n
   unfolding runs_text
-  text_end l =
-      subst (λ (text : List ℕ). FrontWritten text before buf n) (sym (fold_end t.left l ∙ append-nil t.text)) t.written
+  text_end e = subst (λ (text : List ℕ). FrontWritten text before buf n) (sym (e ∙ append-nil t.text)) t.written
 
-  pub text_kept : length bytes ≤ at → length (runs_text 1 (runs_in bytes)) ≤ length before → length buf ≡ length before
-  text_kept l room = front_kept (text_end l) room
+  pub text_kept : texting 1 [] (runs_in bytes) ≡ texting k t.text [] → length (runs_text 1 (runs_in bytes)) ≤ length before →
+      length buf ≡ length before
+  text_kept e room = front_kept (text_end e) room
 
 -- The total's line behind them.
 

@@ -7,7 +7,7 @@ ghost use Rattle.archive.specs.Check.{check_of};
 ghost use Rattle.summary.specs.Summary.{total_of};
 ghost use Rattle.runsum_text.specs.Text.{run_text, runs_text, total_text, summary_text};
 
-use archive::parts::next_run;
+use archive::parts::runs_of;
 use fields::line;
 use notices::notice::write_word;
 use runs::Run;
@@ -30,13 +30,8 @@ fn write_runs(buf: &mut [u8], archive: &[u8]) -> usize
     ensures { FrontWritten (runs_text 1 (runs_in archive.now)) buf.old buf.new result }
 {
     let mut n = 0;
-    let mut at = 0;
-    let mut number = 1;
-    while at < archive.len() {
-        let next = next_run(archive, at);
-        n += write_run(&mut buf[n..], number, next.run);
-        at = next.end;
-        number += 1;
+    for (run, number) in runs_of(archive).zip(1..) {
+        n += write_run(&mut buf[n..], number, run);
     }
     n
 }

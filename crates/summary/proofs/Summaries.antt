@@ -1,8 +1,8 @@
--- The summary. Its loop is a walk over the lines whose state is the sum so far: the lines and the sum that the walk has come
--- to, with those of the lines left, are those of the archive. A sum above 2^64 − 1 stays so, whatever is added to it.
+-- The summary. Its loop is a walk over the runs whose state is the sum so far: the lines and the sum that the walk has come
+-- to, with those of the runs left, are those of the archive. A sum above 2^64 − 1 stays so, whatever is added to it.
 use mathlib.Core.Path.{◌≡◌, refl, sym, ap, ap₂, ◌∙◌, subst}
 use mathlib.Core.Logic.{by_cases}
-use mathlib.Core.List.{List, ◌∷◌, map}
+use mathlib.Core.List.{List, [], ◌∷◌}
 use Prim.Native.Nat.{ℕ, zero, suc, ◌+◌, ◌-◌, ◌^◌, ◌≤◌, ◌<◌}
 use native.Mathlib.Decide.{dec_lt}
 use native.Mathlib.Omega.{arith}
@@ -12,16 +12,12 @@ use Rattle.std.specs.Prelude.{Result, Err}
 use Rattle.archive.specs.declared.LineRefusal.{LineRefusal}
 use Rattle.refusals.proofs.Replies.{number_suc}
 use Rattle.runs.specs.declared.Run.{Run}
-use Rattle.lines.specs.ReadLine.{run_in}
 use Rattle.summary.specs.declared.SummaryReply.{SummaryReply}
-use Rattle.archive.specs.declared.parts.NextRun.{NextRun}
 use Rattle.archive.specs.Archive.{lines_of, runs_in, IsArchive}
 use Rattle.archive.specs.Check.{CheckReply, refused_at, plain_check, check_of, CheckPromise}
 use Rattle.summary.specs.Summary.{total_of, summary_given, summary_refused, plain_summary, runs_summary, summary_of, SummaryPromise}
-use Rattle.archive.specs.Parts.{LineRun}
-use Rattle.archive.proofs.Folding.{Fold, fold_line, fold_next, fold_end}
+use Rattle.archive.proofs.Walking.{RunsLeft, runs_left, runs_next}
 use Rattle.archive.proofs.Checking.{long_check, check_accepts, check_as}
-use Rattle.archive.proofs.Runs.{run_line}
 
 -- The summary of some runs, by whether the sum fits a word.
 sum_fits : (runs : List Run) → total_of runs < 2 ^ 64 → runs_summary runs ≡ summary_given (length runs) (total_of runs)
@@ -35,34 +31,27 @@ sum_large runs l = rw (le-ltb (total_of runs) (2 ^ 64) l)
 -- The loop.
 
 -- the lines and the sum so far, with those of the lines left
-abbrev pub summing : ℕ → ℕ → List (List ℕ) → ℕ × ℕ
-summing k total lines = (k + length (map run_in lines), total + total_of (map run_in lines))
+abbrev pub summing : ℕ → ℕ → List Run → ℕ × ℕ
+summing k total runs = (k + length runs, total + total_of runs)
 
-module _ {bytes : List ℕ} {at total : ℕ} (n : ℕ) (w : Fold summing 0 bytes at (n + 1) total) where
-  module _ {next : NextRun} (l : at < length bytes) (r : LineRun bytes at next) where
-    -- the count of the line that was read
-    counted : (runs : List Run) → total_of (run_in (take (next.end - at) (drop at bytes)) ∷ runs) ≡ next.run.count + total_of runs
+module _ {bytes rest : List ℕ} {k total : ℕ} (w : RunsLeft summing 0 bytes rest k total) where
+  module _ {run : Run} {runs : List Run} {line : ℕ} (e : runs_in rest ≡ run ∷ runs) (n : line ≡ k) where
+    pub sum_next : {rest' : List ℕ} {k' sum : ℕ} → runs ≡ runs_in rest' → k' ≡ line + 1 → sum ≡ total + run.count →
+        RunsLeft summing 0 bytes rest' k' sum
     unfolding total_of
-    counted runs = ap (λ (q : Run). q.count + total_of runs) (run_line l r)
+    sum_next {sum = sum} r q t = runs_next w e n sum r q (ap₂ (λ (i j : ℕ). (i, j)) (omega arith) (omega (arith, t)))
 
-    pub sum_next : Fold summing 0 bytes next.end (n + 1 + 1) (total + next.run.count)
-    sum_next =
-        fold_next w l r.ends (total + next.run.count)
-        (λ lines. ap₂ (λ (i j : ℕ). (i, j)) (omega arith) (omega (arith, counted (map run_in lines))))
+    pub sum_over : 2 ^ 64 ≤ total + run.count → summary_refused 10 0 ≡ runs_summary (runs_in bytes)
+    unfolding total_of
+    sum_over h = sym (sum_large (runs_in bytes) (omega (arith, h, ap (λ (p : ℕ × ℕ). p.1) (runs_left w e n))))
 
-    pub sum_over : 2 ^ 64 ≤ total + next.run.count → summary_refused 10 0 ≡ runs_summary (runs_in bytes)
-    sum_over h =
-        sym
-        (sum_large (runs_in bytes)
-        (omega (arith, ap (λ (p : ℕ × ℕ). p.1) (fold_line w l r.ends), counted (map run_in (lines_of (drop next.end bytes))))))
-
-  pub sum_end : length bytes ≤ at → total < 2 ^ 64 → summary_given n total ≡ runs_summary (runs_in bytes)
-  unfolding total_of
-  sum_end l h =
-      let ends = fold_end w l in
-      let lines : n ≡ length (runs_in bytes) = omega (arith, ap (λ (p : ℕ × ℕ). p.0) ends) in
-      let sum : total ≡ total_of (runs_in bytes) = omega (arith, ap (λ (p : ℕ × ℕ). p.1) ends) in
-      ap₂ summary_given lines sum ∙ sym (sum_fits (runs_in bytes) (omega arith))
+pub sum_end : (bytes : List ℕ) (n total : ℕ) {k : ℕ} → k ≡ n + 1 → summing 1 0 (runs_in bytes) ≡ summing k total [] → total < 2 ^ 64 →
+    summary_given n total ≡ runs_summary (runs_in bytes)
+unfolding total_of
+sum_end bytes n total q ends h =
+    let lines : n ≡ length (runs_in bytes) = omega (arith, q, ap (λ (p : ℕ × ℕ). p.0) ends) in
+    let sum : total ≡ total_of (runs_in bytes) = omega (arith, ap (λ (p : ℕ × ℕ). p.1) ends) in
+    ap₂ summary_given lines sum ∙ sym (sum_fits (runs_in bytes) (omega arith))
 
 -- The promise of the call.
 

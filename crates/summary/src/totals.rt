@@ -5,7 +5,7 @@ ghost use Rattle.archive.specs.Check.{check_of};
 ghost use Rattle.summary.specs.Summary.{runs_summary, plain_summary};
 
 use archive::LineRefusal;
-use archive::parts::next_run;
+use archive::parts::runs_of;
 use refusals::Refusal;
 
 // The number of lines and the sum of their counts.
@@ -20,20 +20,17 @@ pub fn summed(archive: &[u8]) -> Result<Totals, LineRefusal>
     requires { (check_of archive.now).refusal ≡ 0 }
     ensures { plain_summary result ≡ runs_summary (runs_in archive.now) }
 {
-    let mut at = 0;
     let mut line_count = 0;
     let mut total: u64 = 0;
-    while at < archive.len() {
-        let next = next_run(archive, at);
-        let Some(sum) = total.checked_add(next.run.count) else {
+    for (run, line) in runs_of(archive).zip(1..) {
+        let Some(sum) = total.checked_add(run.count) else {
             return Err(LineRefusal {
                 refusal: Refusal::TotalOverflow,
                 line: 0,
             });
         };
+        line_count = line;
         total = sum;
-        at = next.end;
-        line_count += 1;
     }
     Ok(Totals { line_count, total })
 }

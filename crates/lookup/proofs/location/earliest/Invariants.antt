@@ -1,15 +1,10 @@
--- `lookup::location::earliest` meets its contract: the loop is a walk that seeks the first run that shows y, and one that meets
--- no line that is refused.
-use Prim.Native.Nat.{◌-◌}
-use lib.ListN.{length}
-use Rattle.archive.proofs.Folding.{Fold}
-use Rattle.archive.proofs.Checking.{refusing}
+-- `lookup::location::earliest` meets its contract: the loop is a walk that seeks the first run that shows y.
+use Rattle.archive.proofs.Walking.{RunsLeft}
 use Rattle.lookup.proofs.Walk.{showing}
 use Rattle.lookup.proofs.location.earliest.Given as goal
 
-abbrev pub invariant-loop-at : goal.invariant-loop-at
-invariant-loop-at l =
-    Fold (showing l.y) tt l.archive l.at l.line tt × Fold refusing tt l.archive l.at l.line tt
-
-abbrev pub decreases-loop-at : goal.decreases-loop-at
-decreases-loop-at l = length l.archive - l.at
+abbrev pub invariant-loop-run : goal.invariant-loop-run
+invariant-loop-run l =
+    goal.iterator-loop-run.can_next l.run-iterator
+    × goal.iterator-loop-run.is_finite l.run-iterator
+    × RunsLeft (showing l.y) tt l.archive l.run-iterator.a.rest.now l.run-iterator.b.start tt

@@ -1,15 +1,9 @@
--- `text::write_runs` meets its contract: the loop is a walk that writes the line of each run, and one that meets no line that
--- is refused.
-use Prim.Native.Nat.{◌-◌}
-use lib.ListN.{length}
-use Rattle.archive.proofs.Folding.{Fold}
-use Rattle.archive.proofs.Checking.{refusing}
+-- `text::write_runs` meets its contract: the loop is a walk that writes the line of each run.
 use Rattle.runsum_text.proofs.Writing.{TextSoFar}
 use Rattle.runsum_text.proofs.text.write_runs.Given as goal
 
-abbrev pub invariant-loop-at : goal.invariant-loop-at
-invariant-loop-at l =
-    TextSoFar l.archive l.initial.buf l.buf l.at l.number l.n × Fold refusing tt l.archive l.at l.number tt
-
-abbrev pub decreases-loop-at : goal.decreases-loop-at
-decreases-loop-at l = length l.archive - l.at
+abbrev pub invariant-loop-run : goal.invariant-loop-run
+invariant-loop-run l =
+    goal.iterator-loop-run.can_next l.run-iterator
+    × goal.iterator-loop-run.is_finite l.run-iterator
+    × TextSoFar l.archive l.initial.buf l.buf l.run-iterator.a.rest.now l.run-iterator.b.start l.n

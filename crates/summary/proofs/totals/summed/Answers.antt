@@ -1,41 +1,33 @@
--- `archive::totals::summed` meets its contract: the loop is a walk that adds up the counts, and one that meets no line that
--- is refused.
-use mathlib.Core.Path.{sym, subst}
+-- `summary::totals::summed` meets its contract: the loop is a walk that adds up the counts.
+use mathlib.Core.Path.{refl, sym}
 use native.Mathlib.Omega.{arith}
-use Rattle.archive.proofs.Folding.{Fold, fold_start}
-use Rattle.archive.proofs.Runs.{run_advances, run_accepted, run_next}
-use Rattle.summary.proofs.Summaries.{summing, sum_next, sum_over, sum_end}
+use Rattle.archive.proofs.Walking.{runs_start, runs_end}
+use Rattle.summary.proofs.Summaries.{sum_next, sum_over, sum_end}
 use Rattle.summary.proofs.totals.summed.Goals as goal
 
-pub loop-at-init : goal.loop-at-init
-loop-at-init c = (fold_start, fold_start, omega arith)
-
-pub next_run-next-requires : goal.next_run-next-requires
-next_run-next-requires c =
-    let l = c.loop-at-test.true in
-    record { at_in_bounds = l; archive_value = run_accepted c.requires c.loop-at.invariant.1 l }
+pub loop-run-init : goal.loop-run-init
+loop-run-init c =
+    let zip = c.zip-run-items.ensures in
+    let start = runs_start c.requires c.into_iter-run-iterator.ensures.into_iter_gives zip.first zip.second c.runs_of.ensures.rest in
+    ((start.0, tt), tt, start.1, start.2, omega arith)
 
 pub returns-in_default : goal.returns-in_default
 returns-in_default c =
-    sum_over _ c.loop-at.invariant.0 c.loop-at-test.true c.next_run-next.ensures (omega (arith, c.in_default.ensures))
+    let steps = c.in-Some.ensures.steps in
+    sum_over c.loop-run.invariant.2 steps.0 steps.1.0 (omega (arith, c.in_default.ensures))
 
-pub overflow_add-line_count : goal.overflow_add-line_count
-overflow_add-line_count c =
-    omega (arith, c.loop-at.invariant.0.few, c.loop-at-test.true)
-
-pub loop-at-smaller : goal.loop-at-smaller
-loop-at-smaller c =
-    let l = c.loop-at-test.true in
-    omega (arith, l, run_advances l c.next_run-next.ensures)
-
-pub loop-at-preserved : goal.loop-at-preserved
-loop-at-preserved c =
-    let l = c.loop-at-test.true in
-    let w = c.loop-at.invariant in (
-      subst (Fold summing 0 _ _ _) (sym c.in-Some.ensures.1) (sum_next _ w.0 l c.next_run-next.ensures),
-      run_next c.requires w.1 l c.next_run-next.ensures,
-      omega (arith, c.in-Some.ensures),
+pub loop-run-preserved : goal.loop-run-preserved
+loop-run-preserved c =
+    let steps = c.in-Some.ensures.steps in
+    let sum = c.in-Some-checked_add.ensures in (
+      c.in-Some.ensures.goes.keeps,
+      tt,
+      sum_next c.loop-run.invariant.2 steps.0 steps.1.0 refl steps.1.1 sum.1,
+      steps.1.1,
+      omega (arith, sum),
     )
 
 pub returns : goal.returns
-returns c = sum_end _ c.loop-at.invariant.0 c.loop-at-test.false c.loop-at.invariant.2
+returns c =
+    let w = c.loop-run.invariant in
+    sum_end _ _ _ w.3 (runs_end c.loop-run.run-iterator w.2 c.in-None.ensures.steps) w.4

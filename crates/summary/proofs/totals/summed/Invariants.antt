@@ -1,15 +1,14 @@
--- `archive::totals::summed` meets its contract: the loop is a walk that adds up the counts, and one that meets no line that
--- is refused.
-use Prim.Native.Nat.{◌+◌, ◌-◌, ◌<◌, ◌^◌}
-use lib.ListN.{length}
-use Rattle.archive.proofs.Folding.{Fold}
-use Rattle.archive.proofs.Checking.{refusing}
+-- `summary::totals::summed` meets its contract: the loop is a walk that adds up the counts.
+use mathlib.Core.Path.{◌≡◌}
+use Prim.Native.Nat.{◌+◌, ◌<◌, ◌^◌}
+use Rattle.archive.proofs.Walking.{RunsLeft}
 use Rattle.summary.proofs.Summaries.{summing}
 use Rattle.summary.proofs.totals.summed.Given as goal
 
-abbrev pub invariant-loop-at : goal.invariant-loop-at
-invariant-loop-at l =
-    Fold summing 0 l.archive l.at (l.line_count + 1) l.total × Fold refusing tt l.archive l.at (l.line_count + 1) tt × (l.total < 2 ^ 64)
-
-abbrev pub decreases-loop-at : goal.decreases-loop-at
-decreases-loop-at l = length l.archive - l.at
+abbrev pub invariant-loop-run : goal.invariant-loop-run
+invariant-loop-run l =
+    goal.iterator-loop-run.can_next l.run-iterator
+    × goal.iterator-loop-run.is_finite l.run-iterator
+    × RunsLeft summing 0 l.archive l.run-iterator.a.rest.now l.run-iterator.b.start l.total
+    × (l.run-iterator.b.start ≡ l.line_count + 1)
+    × (l.total < 2 ^ 64)

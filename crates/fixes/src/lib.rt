@@ -20,7 +20,7 @@ pub struct Fix {
     pub north: f64,
 }
 
-// The fix is +0.0 twice beside a refusal.
+// For C: the fix is +0.0 twice beside a refusal.
 #[repr(C)]
 #[derive(Clone, Copy, Default)]
 pub struct FixReply {

@@ -13,7 +13,7 @@ use sequences::Indices;
 pub mod plain;
 pub mod turns;
 
-// found is 0 for never.
+// For C: found is 0 for never.
 #[repr(C)]
 #[derive(Clone, Copy, Default)]
 pub struct GapReply {

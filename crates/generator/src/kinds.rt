@@ -1,4 +1,5 @@
-// Functions that choose by kind. All they ask is that the generator is accepted.
+// Functions that choose by kind. All they ask is that the generator is accepted: by a clause, since a type of accepted generators
+// would ask more of those who call them with the record.
 ghost use Rattle.std.specs.Prelude.{◌≡◌};
 ghost use Rattle.generator.specs.Recurrence.{element, step};
 ghost use Rattle.generator.specs.Check.{refusal_of};

@@ -1,4 +1,4 @@
-// The linear kind: its conditions on the operands, and its elements by the jump.
+// The linear kind: its conditions on the operands, and its elements by the jump. `Linear` is asked for by a clause, as kinds.rt asks.
 ghost use Rattle.std.specs.Prelude.{◌≡◌, ◌≤◌};
 ghost use Rattle.generator.specs.Recurrence.{kind_of, element, step};
 ghost use Rattle.generator.specs.declared.Kind.TheVariants as kind;

@@ -16,7 +16,7 @@ pub mod accepted;
 pub mod numbers;
 pub mod plain;
 
-// The same in plain numbers: the refusal's number, 0 for none, and the run, all zeros beside a refusal.
+// The same in plain numbers, for C: the refusal's number, 0 for none, and the run, all zeros beside a refusal.
 #[repr(C)]
 #[derive(Clone, Copy)]
 pub struct RunReply {

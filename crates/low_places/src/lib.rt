@@ -21,7 +21,7 @@ pub enum PlacesAnswer {
     Never,
 }
 
-// found is 0 for never; recurs is 0 for the index only, 1 for it and those every 2^exponent further.
+// For C: found is 0 for never; recurs is 0 for the index only, 1 for it and those every 2^exponent further.
 #[repr(C)]
 #[derive(Clone, Copy, Default)]
 pub struct PlacesReply {

@@ -22,7 +22,7 @@ pub enum OrbitAnswer {
     Period { preperiod: u64, period: u64 },
 }
 
-// The same in plain numbers: the refusal's number, 0 for none, and zeros beside a refusal. Where period is 0 it is 2^exponent,
+// The same in plain numbers, for C: the refusal's number, 0 for none, and zeros beside a refusal. Where period is 0 it is 2^exponent,
 // otherwise it is the period itself, and exponent is 0.
 #[repr(C)]
 #[derive(Clone, Copy, Default)]
@@ -33,7 +33,7 @@ pub struct OrbitReply {
     pub period: u64,
 }
 
-// found is 0 for never.
+// For C: found is 0 for never.
 #[repr(C)]
 #[derive(Clone, Copy, Default)]
 pub struct IndexReply {

@@ -15,7 +15,7 @@ use states::moved;
 pub mod checks;
 pub mod states;
 
-// A position to return to. `set` is 0 while there is none; any other number stands for set.
+// A position to return to, as C has it: `set` is 0 while there is none; any other number stands for set.
 #[repr(C)]
 #[derive(Clone, Copy, Default)]
 pub struct Mark {

@@ -26,7 +26,7 @@ pub enum Refusal {
     Incompatible = 16,
 }
 
-// The same in plain numbers: the refusal's number, 0 for none, and the value, 0 beside a refusal.
+// The same in plain numbers, for C: the refusal's number, 0 for none, and the value, 0 beside a refusal.
 #[repr(C)]
 #[derive(Clone, Copy)]
 pub struct ValueReply {

@@ -1,4 +1,4 @@
-// Where a run starts.
+// Where a run starts. That it is accepted is a clause and no type, as for a generator in `generator::kinds`.
 ghost use Rattle.std.specs.Prelude.{◌≡◌};
 ghost use Rattle.runs.specs.Run.{run_refusal, FromFirst};
 

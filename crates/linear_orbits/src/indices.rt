@@ -41,7 +41,8 @@ fn by_places(g: Generator, places: u64, y: u64) -> Indices
     }
 }
 
-// The low places of the element one step after that whose low places are x.
+// The low places of the element one step after that whose low places are x. `generator::linear::next` is of all places: by it the
+// loop would mask twice.
 #[tactic(auto, using(crate::proofs::LinearIndices::low_once))]
 fn low_next(g: Generator, places: u64, x: u64) -> u64
     requires { (1 ≤ places) × (places ≤ 64) }

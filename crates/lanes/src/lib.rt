@@ -31,5 +31,6 @@ pub fn write_lane(run: Run, lanes: u64, lane: u64, buffer: &mut [u8]) -> Result<
     ensures { WriteLanePromise run lanes lane buffer.old buffer.new (plain_value result) }
 {
     lane_checked(run, lanes, lane)?;
-    write_line(lane_of(run, lanes, lane), buffer)
+    let own = lane_of(run, lanes, lane);
+    write_line(own, buffer)
 }

@@ -37,10 +37,11 @@ pub fn opened(before: Player, run: Run) -> Result<Player, Refusal>
     ensures { PlayerPromise (Open run) before (left before result) (told (refusal_told result)) }
 {
     runs::checked(run)?;
+    let marks = [Mark::default(); 4];
     Ok(Player {
         run,
         position: 0,
-        marks: [Mark::default(); 4],
+        marks,
     })
 }
 

@@ -4,12 +4,12 @@ use Rattle.lanes.proofs.Promises.{write_lane_refused, write_lane_written}
 use Rattle.std.proofs.Common.{rules}
 use Rattle.lanes.proofs.write_lane.Goals as goal
 
-pub lane_of-requires : goal.lane_of-requires
-lane_of-requires c = (number_accepted c.lane_checked.ensures c.in_ok-lane_checked.was)
+pub lane_of-own-requires : goal.lane_of-own-requires
+lane_of-own-requires c = (number_accepted c.lane_checked.ensures c.in_ok-lane_checked.was)
 
 pub returns : goal.returns
 returns c =
-    write_lane_written _ _ _ ((number_accepted c.lane_checked.ensures c.in_ok-lane_checked.was)) c.lane_of.ensures c.write_line.ensures
+    write_lane_written _ _ _ ((number_accepted c.lane_checked.ensures c.in_ok-lane_checked.was)) c.lane_of-own.ensures c.write_line.ensures
 
 pub returns-in_err-lane_checked : goal.returns-in_err-lane_checked
 returns-in_err-lane_checked c = let refused = write_lane_refused c.args.run c.args.lanes c.args.lane c.args.buffer.now in search (refused, rules)

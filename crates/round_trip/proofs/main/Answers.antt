@@ -1,5 +1,5 @@
 -- `round_trip::main` meets its contract: what `round_trip` ensures of an accepted run shows each check.
-use Rattle.std.proofs.Common.{◌≡◌, sym, ap, ◌∙◌}
+use Rattle.std.proofs.Common.{sym, ap, ◌∙◌}
 use Rattle.generator.specs.Recurrence.{modulus}
 use Rattle.generator.specs.Check.{refusal_of}
 use Rattle.refusals.proofs.Replies.{number_nonzero}

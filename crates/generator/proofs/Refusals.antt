@@ -5,7 +5,7 @@ use Prim.Native.Nat.{ℕ, zero, suc, ◌%◌, ◌^◌, ◌≤◌, ◌<◌}
 use native.Mathlib.Omega.{arith}
 use lib.Dec.{eqb, leb}
 use lib.Pow.{pow_pos, pow_mono}
-use borrow.Author.Tests.{eq-eqb, ne_eqb, eqb-true, leb-true, lt-leb, le-ltb, leb-false, eqb-false, ltb-false}
+use borrow.Author.Tests.{eq-eqb, ne_eqb, eqb-true, lt-leb, le-ltb, leb-false, eqb-false, ltb-false}
 use Rattle.refusals.proofs.Conditions.{cond_none, or_false}
 use Rattle.generator.specs.declared.Generator.{Generator}
 use Rattle.generator.specs.declared.Kind.{Kind}
@@ -138,15 +138,6 @@ module _ (g : Generator) where
   unfolding refusal_of
   kind_accepted {k} q w v = rw (le-ltb 64 g.width w, q, fit_operands g k v)
 
-  -- and up to width 64 any other one is refused with 4
-  pub refused_four : {k : Kind} → kind_of g ≡ k → g.width ≤ 64 → (OfKind g k → ⊥) → 4 ≡ refusal_of g
-  unfolding refusal_of
-  refused_four {k} q w unfit = rw (le-ltb 64 g.width w, q) (go (operand_refused k g) refl)
-    where
-      go : (b : Bool) → operand_refused k g ≡ b → ◌≡◌ {A = ℕ} 4 (cond b 4 0)
-      go true e = refl
-      go false e = absurd (unfit (operands_fit g k q w e))
-
 -- what `kind_of` finds, and what that says of an accepted generator
 pub kind_is : {g : Generator} {k : Kind} → kind_of g ≡ k → KindIs g k
 kind_is {g} e = record { is = e; of_kind = accepted_kind g e }
@@ -188,42 +179,6 @@ modulus_word g z = go (kind_of g) refl
     go : (k : Kind) → kind_of g ≡ k → modulus g ≤ 2 ^ 64
     go kind.Linear q = rw (modulus_linear g q) (pow_mono (accepted_width g z))
     go kind.Prime q = rw (modulus_prime g q) (omega arith)
-
--- The conditions of each kind, as the program tests them.
-pub wide_unfit : (m x : ℕ) → leb m x ≡ true → x < m → ⊥
-wide_unfit m x e h = omega (arith, leb-true m x e)
-
-pub linear_fits : (g : Generator) → (kind_of g ≡ kind.Linear) × (g.width ≤ 64) →
-    leb (2 ^ g.width) g.multiplier ≡ false → leb (2 ^ g.width) g.increment ≡ false →
-    leb (2 ^ g.width) g.seed ≡ false → 0 ≡ refusal_of g
-linear_fits g w a c x =
-    sym
-    (kind_accepted g w.0 w.1
-    (record {
-      kind = w.0;
-      width_low = linear_width g w.0;
-      width_high = w.1;
-      multiplier_below = leb-false _ _ a;
-      increment_below = leb-false _ _ c;
-      seed_below = leb-false _ _ x;
-    }))
-
--- a number that is not out of range, and one that is
-pub in_range : (x : ℕ) → (eqb x 0 || leb 2147483647 x) ≡ false → (1 ≤ x) × (x < 2147483647)
-in_range x e =
-    let h = or_false (eqb x 0) (leb 2147483647 x) e in
-    (omega (arith, eqb-false x 0 h.0), leb-false _ _ h.1)
-
-pub out_unfit : (x : ℕ) → (eqb x 0 || leb 2147483647 x) ≡ true → 1 ≤ x → x < 2147483647 → ⊥
-out_unfit x e low high =
-    true≢false (sym e ∙ simp (ne_eqb x 0 (λ q. omega (arith, low)), lt-leb _ _ high))
-
-pub prime_fits : (g : Generator) → kind_of g ≡ kind.Prime → g.multiplier ≡ 16807 → g.increment ≡ 0 →
-    (1 ≤ g.seed) × (g.seed < 2147483647) → 0 ≡ refusal_of g
-prime_fits g q a c seed =
-    sym
-    (kind_accepted g q (omega (arith, prime_width g q))
-    (record { kind = q; multiplier = a; increment = c; seed_low = seed.0; seed_high = seed.1 }))
 
 -- A multiplier that is not even is odd.
 pub parity_odd : (g : Generator) → parity_refusal g ≡ 0 → g.multiplier % 2 ≡ 1

@@ -40,6 +40,7 @@ pub fn kind_of(g: Generator) -> Kind
 }
 
 // The conditions that every call on a generator checks first.
+#[tactic(auto, unfolding(crate::specs::Check::refusal_of))]
 pub fn checked(g: Generator) -> Result<(), Refusal>
     ensures { check_number result ≡ refusal_of g }
 {

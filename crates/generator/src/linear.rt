@@ -22,6 +22,7 @@ pub fn once(g: Generator) -> Affine
 }
 
 // The conditions on the operands.
+#[tactic(auto, using(crate::proofs::Refusals::modulus_linear), unfolding(crate::specs::Check::refusal_of))]
 pub fn checked(g: Generator) -> Result<(), Refusal>
     requires { (kind_of g ≡ kind.Linear) × (g.width ≤ 64) }
     ensures { check_number result ≡ refusal_of g }

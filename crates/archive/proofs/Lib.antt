@@ -5,7 +5,7 @@ mod Twins
 mod Chaining
 pub mod Checking
 mod TwinRefusal
-mod LineByLine
 pub mod Runs
 pub mod Walking
+mod LineByLine
 pub mod Examples

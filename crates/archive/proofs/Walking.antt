@@ -4,9 +4,9 @@ use mathlib.Core.Path.{◌≡◌, refl, sym, ap, ap₂, subst, ◌∙◌}
 use mathlib.Core.List.{List, [], ◌∷◌, map}
 use Prim.Native.Nat.{ℕ, ◌+◌, ◌-◌, ◌≤◌, ◌<◌}
 use mathlib.Core.Logic.{◌⊎◌, ⊎_elim, by_cases}
-use native.Mathlib.Decide.{ℕ_discrete}
+use native.Mathlib.Decide.{ℕ_discrete, dec_lt}
 use native.Mathlib.Omega.{arith}
-use lib.ListN.{length, take, drop, length-drop, drop_of_length-le}
+use lib.ListN.{length, get_or, take, drop, length-drop, drop_of_length-le}
 use lib.Seq.{length-take-le}
 use Rattle.std.specs.declared.iter.Zip.{Zip}
 use Rattle.std.specs.declared.ops.RangeFrom.{RangeFrom}
@@ -41,6 +41,35 @@ module _ (bytes : List ℕ) {at end : ℕ} (l : at < length bytes) (e : end ≡ 
 
 pub place_none : (bytes : List ℕ) {at : ℕ} → length bytes ≤ at → places_left bytes at ≡ []
 place_none bytes {at} l = ap (λ (bs : List ℕ). places_from at (lines_of bs)) (drop_of_length-le bytes l) ∙ unfold lines_of in refl
+
+-- the next of the places, and those behind it
+pub record NextPlace (bytes : List ℕ) (at : ℕ) (next : Place) (others : List Place) : Type 0 where
+  pub some : at < length bytes
+  pub starts : next.start ≡ at
+  pub ends : next.end ≡ at + length (first_part (drop at bytes))
+  pub left : others ≡ places_left bytes next.end
+
+pub place_next : (bytes : List ℕ) {at : ℕ} {next : Place} {left : List Place} → places_left bytes at ≡ next ∷ left → NextPlace bytes at next left
+place_next bytes {at} {next} {left} e =
+    by_cases (dec_lt at (length bytes)) (λ l. found l (sym e ∙ place_first bytes l refl))
+    (λ d. absurd (omega (arith, ap length (sym e ∙ place_none bytes (let l : length bytes ≤ at = omega arith in l)))))
+  where
+    end : ℕ
+    end = at + length (first_part (drop at bytes))
+
+    found : at < length bytes → next ∷ left ≡ place at end ∷ places_left bytes end → NextPlace bytes at next left
+    found l q =
+        let is : next ≡ place at end = ap (λ (ps : List Place). get_or ps 0 next) q in
+        record {
+          some = l;
+          starts = ap (λ (p : Place). p.start) is;
+          ends = ap (λ (p : Place). p.end) is;
+          left = ap (drop 1) q ∙ ap (λ (p : Place). places_left bytes p.end) (sym is);
+        }
+
+pub places_end : (bytes : List ℕ) {at : ℕ} → places_left bytes at ≡ [] → length bytes ≤ at
+places_end bytes {at} e =
+    by_cases (dec_lt at (length bytes)) (λ l. absurd (omega (arith, ap length (sym e ∙ place_first bytes l refl)))) (λ d. omega arith)
 
 -- Runs.
 none_unread_all : (k : ℕ) (lines : List (List ℕ)) → (first_unread k lines).refusal ≡ 0 → AllRead lines

@@ -8,7 +8,7 @@ ghost use Rattle.archive.specs.Chained.{Chained, SeenLine};
 ghost use Rattle.archive.specs.Check.{CheckPromise, plain_check};
 
 use crate::LineRefusal;
-use crate::parts::part_end;
+use crate::parts::{Place, places_of};
 use chains::chains::Chains;
 use chains::hash::slot;
 use lines::numbers::numbers_of;
@@ -45,19 +45,14 @@ pub fn lines_checked(archive: &[u8], chains: &mut Chains<'_>) -> Result<(), Line
     requires chained { Chained archive.now 0 chains.old.head.now chains.old.next.now [] }
     ensures { CheckPromise archive.now (plain_check result) }
 {
-    let mut at = 0;
-    let mut line = 1;
-    while at < archive.len() {
-        let end = part_end(archive, at);
-        let run = read_numbered(&archive[at..end], line)?;
-        if line_seen(archive, at, end, run, chains) {
+    for (Place { start, end }, line) in places_of(archive).zip(1..) {
+        let run = read_numbered(&archive[start..end], line)?;
+        if line_seen(archive, start, end, run, chains) {
             return Err(LineRefusal {
                 refusal: Refusal::DuplicateLine,
                 line,
             });
         }
-        at = end;
-        line += 1;
     }
     Ok(())
 }

@@ -4,7 +4,7 @@ ghost use Rattle.archive.specs.Check.{check_of};
 ghost use Rattle.archive_line.specs.Line.{plain_part, PartPromise};
 
 use crate::Part;
-use archive::parts::part_end;
+use archive::parts::{Place, places_of};
 
 // The part that the line with that number of an accepted archive is, if there is such a line.
 pub fn part_of_line(archive: &[u8], number: u64) -> Option<Part>
@@ -12,18 +12,10 @@ pub fn part_of_line(archive: &[u8], number: u64) -> Option<Part>
     ensures part { PartPromise archive.now number (plain_part result) }
     ensures some { IfSome result (λ part. 0 < part.length) }
 {
-    let mut at = 0;
-    let mut k = 1;
-    while at < archive.len() {
-        let end = part_end(archive, at);
-        if k == number {
-            return Some(Part {
-                start: at,
-                length: end - at,
-            });
-        }
-        at = end;
-        k += 1;
-    }
-    None
+    let before = number.checked_sub(1)?;
+    let Place { start, end } = places_of(archive).nth(before as usize)?;
+    Some(Part {
+        start,
+        length: end - start,
+    })
 }

@@ -1,13 +1,11 @@
 -- `archive::checks::lines_checked` meets its contract: the loop is a walk whose state is the lines before, which are those in
 -- the chains.
-use Prim.Native.Nat.{◌-◌}
-use lib.ListN.{length}
+use Rattle.archive.specs.Parts.{places_left}
 use Rattle.archive.proofs.LineByLine.{Passed}
 use Rattle.archive.proofs.checks.lines_checked.Given as goal
 
-abbrev pub invariant-loop-at : goal.invariant-loop-at
-invariant-loop-at l =
-    Passed l.archive l.at l.line l.chains.head.now l.chains.next.now
-
-abbrev pub decreases-loop-at : goal.decreases-loop-at
-decreases-loop-at l = length l.archive - l.at
+abbrev pub invariant-loop-start : goal.invariant-loop-start
+invariant-loop-start l =
+    goal.iterator-loop-start.can_next l.start-iterator
+    × goal.iterator-loop-start.is_finite l.start-iterator
+    × Passed l.archive (places_left l.start-iterator.a.bytes.now l.start-iterator.a.at) l.start-iterator.b.start l.chains.head.now l.chains.next.now

@@ -1,7 +1,6 @@
 -- The check of an archive, by its definition: it goes by the first line that is refused, by `read_line` or as equal to an
 -- earlier one. An accepted line is that of the run in it, so an archive is accepted exactly if its bytes are the lines of
--- accepted runs, none equal to an earlier one. Behind the check a walk over the lines, with no state, meets none that
--- `read_line` refuses.
+-- accepted runs, none equal to an earlier one.
 use mathlib.Core.Path.{◌≡◌, refl, sym, ap, ap₂, ◌∙◌, subst}
 use mathlib.Core.Logic.{by_cases}
 use mathlib.Core.Bool.{Bool, true, false, cond}
@@ -197,7 +196,3 @@ check_as b e p = ap plain_check (sym e) ∙ p.equals
 
 pub check_accepted : {bytes : List ℕ} {a : Result (Unit {0}) LineRefusal} → a ≡ Ok tt → CheckPromise bytes (plain_check a) → (check_of bytes).refusal ≡ 0
 check_accepted e p = ap (λ (r : CheckReply). r.refusal) (sym (check_as (Ok tt) e p))
-
--- A walk behind the check.
-abbrev pub refusing : ℕ → Unit {0} → List (List ℕ) → CheckReply
-refusing k s lines = first_unread k lines

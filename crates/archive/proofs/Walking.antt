@@ -18,7 +18,7 @@ use Rattle.archive.specs.declared.parts.Place.{Place}
 use Rattle.archive.specs.declared.parts.NextRun.{NextRun}
 use Rattle.archive.specs.declared.parts.Runs.{Runs}
 use Rattle.archive.specs.Archive.{prepend, lines_of, runs_in, AllAccepted}
-use Rattle.archive.specs.Check.{CheckReply, check_of}
+use Rattle.archive.specs.Check.{check_of}
 use Rattle.archive.specs.Parts.{first_part, places_from, places_left, AllRead, LineRun}
 use Rattle.archive.proofs.Splitting.{line_ends, line_goes_on, lines_first, lines_read, part_within}
 use Rattle.archive.proofs.Checking.{first_unread, first_read, check_lines}

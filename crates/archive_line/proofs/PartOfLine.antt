@@ -1,8 +1,10 @@
--- The part of a line. The loop is a walk over the lines whose state is where the next one starts. Where a line is found,
--- the bytes there are that line, since the lines before it take up what comes before.
-use mathlib.Core.Path.{◌≡◌, refl, sym, ap, ◌∙◌, subst}
+-- The part of a line, by the place at its index among those of the lines. The bytes there are that line, since the lines
+-- before it take up what comes before.
+use mathlib.Core.Path.{◌≡◌, refl, sym, ap, ap₂, ◌∙◌, subst}
 use mathlib.Core.List.{List, [], ◌∷◌, ◌++◌, map, append_assoc}
 use Prim.Native.Nat.{ℕ, zero, suc, ◌+◌, ◌-◌, ◌≤◌, ◌<◌}
+use mathlib.Core.Logic.{by_cases}
+use native.Mathlib.Decide.{ℕ_discrete}
 use native.Mathlib.Omega.{arith}
 use lib.ListN.{length, take, drop, length-append, length-drop}
 use lib.Seq.{take-append_seam, drop_at, length-take-le}
@@ -15,15 +17,31 @@ use Rattle.refusals.proofs.Replies.{number_suc}
 use Rattle.runs.specs.declared.Run.{Run}
 use Rattle.lines.specs.Line.{line_of}
 use Rattle.archive_line.specs.declared.Part.{Part}
-use Rattle.archive.specs.Archive.{lines_of, archive_of, IsArchive, numbered}
+use Rattle.archive.specs.Archive.{prepend, lines_of, archive_of, IsArchive, numbered}
 use Rattle.archive.specs.Check.{CheckReply, plain_check, check_of, CheckPromise}
 use Rattle.archive_line.specs.Line.{line_at, part_from, part_of, LinePromise, PartPromise}
-use Rattle.archive.specs.Parts.{first_part}
-use Rattle.archive.proofs.Splitting.{joined, lines_joined, lines_archive, part_within}
-use Rattle.archive.proofs.Folding.{Fold, fold_line, fold_next, fold_end}
+use Rattle.std.specs.Prelude.{Option, Some, None}
+use Rattle.std.specs.Option.{option_map}
+use Rattle.std.specs.List.{slice_get}
+use Rattle.std.specs.Iterator.{YieldsFirst, SkipsThenYields}
+use Rattle.std.proofs.lemmas.Option.{none-some, same_Some}
+use Rattle.std.proofs.lemmas.Iterator.Consumers.{nth_from_yields_List, YieldsList-from_first}
+use Rattle.archive.specs.declared.parts.Place.{Place}
+use Rattle.archive.specs.declared.parts.Places.{Places}
+use Rattle.archive.specs.Parts.{places_from, places_left}
+use Rattle.archive.proofs.Splitting.{joined, line_ends, line_goes_on, lines_joined, lines_archive}
 use Rattle.archive.proofs.Checking.{check_accepts, line_reads}
 use Rattle.lines.specs.ReadLine.{run_in, read_of}
 use Rattle.lines.proofs.Reading.{accepted_run_lem}
+
+abbrev pub part : ℕ → ℕ → Part
+part start length = record { start = start; length = length }
+
+abbrev place : ℕ → ℕ → Place
+place start end = record { start = start; end = end }
+
+abbrev left_of : Places → List Place
+left_of s = places_left s.bytes.now s.at
 
 -- The line sought is the next one, or not.
 part_from_here : (n k start : ℕ) (line : List ℕ) (lines : List (List ℕ)) → k ≡ n →
@@ -36,26 +54,63 @@ part_from_next : (n k start : ℕ) (line : List ℕ) (lines : List (List ℕ)) �
 unfolding part_from
 part_from_next n k start line lines d = rw (ne_eqb k n d, part_from)
 
--- The loop.
+-- The part of the place at index j of the lines' places: that of the line with this index.
+abbrev pub part_of_place : Option Place → Part
+part_of_place (Some p) = part p.start (p.end - p.start)
+part_of_place None = part 0 0
 
-module _ {bytes : List ℕ} (n : ℕ) {at k : ℕ} (w : Fold (part_from n) 0 bytes at k at) where
-  module _ {end : ℕ} (l : at < length bytes) (e : end ≡ at + length (first_part (drop at bytes))) where
-    size : length (take (end - at) (drop at bytes)) ≡ end - at
-    size = length-take-le (end - at) (drop at bytes) (simp length-drop (omega (arith, part_within bytes l e)))
+part_at : (j k start : ℕ) (lines : List (List ℕ)) → part_of_place (slice_get (places_from start lines) j) ≡ part_from (k + j) k start lines
+part_at j k start [] = unfold part_from in refl
+part_at zero k start (line ∷ lines) =
+    ap (part start) (omega arith) ∙ sym (part_from_here (k + 0) k start line lines (omega arith))
+part_at (suc j) k start (line ∷ lines) =
+    let same : suc k + j ≡ k + suc j = omega arith in
+    part_at j (suc k) (start + length line) lines
+    ∙ ap (λ (n : ℕ). part_from n (suc k) (start + length line) lines) same
+    ∙ sym (part_from_next (k + suc j) k start line lines (λ q. omega arith))
 
-    pub part_reached : k ≡ n → record { start = at; length = end - at } ≡ part_from n 1 0 (lines_of bytes)
-    part_reached q =
-        sym
-        (fold_line w l e ∙ part_from_here n k at _ (lines_of (drop end bytes)) q
-        ∙ ap {B = Part} (λ (j : ℕ). record { start = at; length = j }) size)
+-- no line is without bytes
+AllSome : List (List ℕ) → Type 0
+AllSome [] = Unit {0}
+AllSome (line ∷ lines) = (0 < length line) × AllSome lines
 
-    pub part_passed : (k ≡ n → ⊥) → Fold (part_from n) 0 bytes end (k + 1) end
-    part_passed d =
-        let next : at + length (take (end - at) (drop at bytes)) ≡ end = omega (arith, size, part_within bytes l e) in
-        fold_next w l e end (λ lines. part_from_next n k at _ lines d ∙ ap (λ (j : ℕ). part_from n (suc k) j lines) next)
+prepend_some : (b : ℕ) (lines : List (List ℕ)) → AllSome lines → AllSome (prepend b lines)
+unfolding AllSome
+prepend_some b [] a = (omega arith, tt)
+prepend_some b (line ∷ lines) a = (omega arith, a.1)
 
-  pub part_missing : length bytes ≤ at → record { start = 0; length = 0 } ≡ part_from n 1 0 (lines_of bytes)
-  part_missing l = sym (fold_end w l ∙ unfold part_from in refl)
+lines_some : (bytes : List ℕ) → AllSome (lines_of bytes)
+unfolding AllSome lines_of
+lines_some [] = tt
+lines_some (b ∷ bytes) =
+    let rest = lines_some bytes in
+    by_cases (ℕ_discrete b 10) (λ e. subst AllSome (sym (line_ends bytes e)) (omega arith, rest))
+    (λ d. subst AllSome (sym (line_goes_on bytes d)) (prepend_some b (lines_of bytes) rest))
+
+place_some : (j start : ℕ) (lines : List (List ℕ)) (p : Place) → AllSome lines → slice_get (places_from start lines) j ≡ Some p → p.start < p.end
+unfolding AllSome
+place_some j start [] p a e = absurd (none-some p e)
+place_some zero start (line ∷ lines) p a e = subst (λ (q : Place). q.start < q.end) (same_Some _ _ e) (omega (arith, a.0))
+place_some (suc j) start (line ∷ lines) p a e = place_some j (start + length line) lines p a.1 e
+
+-- What the iterator gives behind those that it passes over.
+module _ {bytes : List ℕ} {s : Places} (e : s.bytes.now ≡ bytes) (z : s.at ≡ 0) (number : ℕ) {before : ℕ} (n : (1 ≤ number) × (before ≡ number - 1)) (r : Option Place)
+    (u : Places) (ran : SkipsThenYields (YieldsFirst left_of) s before r u) where
+  given : r ≡ slice_get (places_from 0 (lines_of bytes)) before
+  given =
+      same r
+      ∙ nth_from_yields_List r u before ran (YieldsList-from_first (λ x. x) left_of (places_from 0 (lines_of bytes)) (ap₂ places_left e z))
+    where
+      same : (r : Option Place) → r ≡ option_map (λ x. x) r
+      same (Some p) = refl
+      same None = refl
+
+  pub place_given : (part_of_place r ≡ part_from number 1 0 (lines_of bytes)) × ((p : Place) → r ≡ Some p → p.start < p.end)
+  place_given =
+      let count : 1 + before ≡ number = omega (arith, n) in (
+        ap part_of_place given ∙ part_at before 1 0 (lines_of bytes) ∙ ap (λ (m : ℕ). part_from m 1 0 (lines_of bytes)) count,
+        λ p q. place_some before 0 (lines_of bytes) p (lines_some bytes) (sym given ∙ q),
+      )
 
 -- What a part holds.
 record Holds (bytes line : List ℕ) (part : Part) : Type 0 where
@@ -155,6 +210,10 @@ pub part_found : {bytes : List ℕ} {n : ℕ} {part : Part} → (check_of bytes)
 part_found {bytes} {n} z e =
     let is : part_of bytes n ≡ part_from n 1 0 (lines_of bytes) = unfold part_of in rw (z, part_of) in
     subst (PartPromise bytes n) (is ∙ sym e) (part_promise bytes n)
+
+-- there is no line 0
+pub part_zero : (bytes : List ℕ) (n : ℕ) → (check_of bytes).refusal ≡ 0 → n < 1 → PartPromise bytes n (part 0 0)
+part_zero bytes n z l = part_found z (sym (part_from_past n 1 0 (lines_of bytes) l))
 
 pub part_refused : (bytes : List ℕ) (n : ℕ) (a : Result (Unit {0}) LineRefusal) {refused : Bool} → refused ≡ is_err a → refused ≡ true →
     CheckPromise bytes (plain_check a) → PartPromise bytes n (record { start = 0; length = 0 })

@@ -1,13 +1,12 @@
 -- The lookup's loop is a walk over the runs with no state: the first run that shows the number is sought among those left.
 use mathlib.Core.Path.{◌≡◌, refl, sym, ap, ◌∙◌}
 use mathlib.Core.List.{List, [], ◌∷◌}
-use Prim.Native.Nat.{ℕ, suc, ◌+◌, ◌-◌, ◌≤◌, ◌<◌}
+use Prim.Native.Nat.{ℕ, suc, ◌+◌, ◌≤◌, ◌<◌}
 use native.Mathlib.Omega.{arith}
-use lib.ListN.{length, take, drop}
 use borrow.Author.Tests.{lt-ltb, le-ltb}
 use Rattle.runs.specs.declared.Run.{Run}
 use Rattle.archive.specs.Archive.{runs_in}
-use Rattle.archive.proofs.Walking.{RunsLeft, runs_left, runs_next, runs_end}
+use Rattle.archive.proofs.Walking.{RunsLeft, runs_left, runs_next}
 use Rattle.lookup.specs.declared.LookupReply.{LookupReply}
 use Rattle.lookup.specs.Lookup.{position_of, found_at, found_none, first_showing}
 

@@ -3,17 +3,17 @@
 use mathlib.Core.Path.{◌≡◌, refl, sym, ap, ap₂, ◌∙◌, subst}
 use mathlib.Core.Logic.{by_cases}
 use mathlib.Core.List.{List, [], ◌∷◌}
-use Prim.Native.Nat.{ℕ, zero, suc, ◌+◌, ◌-◌, ◌^◌, ◌≤◌, ◌<◌}
+use Prim.Native.Nat.{ℕ, zero, suc, ◌+◌, ◌^◌, ◌≤◌, ◌<◌}
 use native.Mathlib.Decide.{dec_lt}
 use native.Mathlib.Omega.{arith}
-use lib.ListN.{length, take, drop}
+use lib.ListN.{length}
 use borrow.Author.Tests.{lt-ltb, le-ltb}
 use Rattle.std.specs.Prelude.{Result, Err}
 use Rattle.archive.specs.declared.LineRefusal.{LineRefusal}
 use Rattle.refusals.proofs.Replies.{number_suc}
 use Rattle.runs.specs.declared.Run.{Run}
 use Rattle.summary.specs.declared.SummaryReply.{SummaryReply}
-use Rattle.archive.specs.Archive.{lines_of, runs_in, IsArchive}
+use Rattle.archive.specs.Archive.{runs_in, IsArchive}
 use Rattle.archive.specs.Check.{CheckReply, refused_at, plain_check, check_of, CheckPromise}
 use Rattle.summary.specs.Summary.{total_of, summary_given, summary_refused, plain_summary, runs_summary, summary_of, SummaryPromise}
 use Rattle.archive.proofs.Walking.{RunsLeft, runs_left, runs_next}

@@ -1,5 +1,5 @@
 -- `summary::totals::summed` meets its contract: the loop is a walk that adds up the counts.
-use mathlib.Core.Path.{refl, sym}
+use mathlib.Core.Path.{refl}
 use native.Mathlib.Omega.{arith}
 use Rattle.archive.proofs.Walking.{runs_start, runs_end}
 use Rattle.summary.proofs.Summaries.{sum_next, sum_over, sum_end}

@@ -2,7 +2,6 @@
 use mathlib.Core.Path.{ap}
 use native.Mathlib.Omega.{arith}
 use lib.ListN.{length}
-use Rattle.archive.specs.declared.parts.Place.{Place}
 use Rattle.archive.proofs.Walking.{place_first, place_none}
 use Rattle.archive.proofs.parts.PlacesIterator.next.Goals as goal
 

@@ -66,7 +66,12 @@ fn fix_at(n: [u64; 7]) -> Option<[u64; 3]> {
 fn gap(n: [u64; 6]) -> Option<[u64; 4]> {
     let r = GapReply::from(gaps::gap(generator_of(&n), n[4], n[5]));
     let steps = r.steps;
-    Some([r.refusal, r.found, u64::from(steps < 0), steps.unsigned_abs()])
+    Some([
+        r.refusal,
+        r.found,
+        u64::from(steps < 0),
+        steps.unsigned_abs(),
+    ])
 }
 
 fn index(n: [u64; 5]) -> Option<[u64; 3]> {

@@ -5,7 +5,7 @@
 
 ghost use Rattle.std.specs.Prelude.{◌+◌, ◌≤◌, length};
 
-use archive::parts::part_end;
+use archive::parts::{Place, places_of};
 use archive_io::input::read_input;
 use std::io;
 use std::io::{Input, Print, Write};
@@ -37,15 +37,12 @@ fn answer_input(rt: &(impl Input + Print), space: &mut [u8; 1600000]) {
 fn answer_all<W: Write>(output: &mut W, input: &[u8]) {
     let mut out = [0u8; 65536];
     let mut filled = 0;
-    let mut at = 0;
-    while at < input.len() {
-        let end = part_end(input, at);
-        filled = answer(&input[at..end], &mut out, filled);
+    for Place { start, end } in places_of(input) {
+        filled = answer(&input[start..end], &mut out, filled);
         if 65000 < filled {
             let _ = output.write_all(&out[..filled]);
             filled = 0;
         }
-        at = end;
     }
     let _ = output.write_all(&out[..filled]);
 }

@@ -1,15 +1,11 @@
--- `answer_all` meets its contract. The loop's invariant: at most 65,000 of the 65,536 bytes are filled. The measure is what is left of the
--- input.
-use mathlib.Core.Path.{◌≡◌}
-use Prim.Native.Nat.{◌-◌, ◌≤◌, ◌<◌}
-use native.Mathlib.Omega.{arith}
-use borrow.Author.Rules.{rules}
-use lib.ListN.{length}
-use Rattle.archive.proofs.Splitting.{part_within, part_advances}
+-- `answer_all` meets its contract. The loop's invariant: the places left are those of the input from some byte on, and at most 65,000
+-- of the 65,536 bytes are filled.
+use Rattle.std.proofs.Common.{ℕ, ◌≡◌, ◌≤◌, length}
+use Rattle.archive.specs.Parts.{places_left}
 use Rattle.vectors_io.proofs.answer_all.Given as goal
 
-abbrev pub invariant-loop-at : goal.invariant-loop-at
-invariant-loop-at g l = (length l.out ≡ 65536) × (l.filled ≤ 65000)
-
-abbrev pub decreases-loop-at : goal.decreases-loop-at
-decreases-loop-at g l = length l.input - l.at
+abbrev pub invariant-loop-start : goal.invariant-loop-start
+invariant-loop-start g l =
+    ((at : ℕ) × (places_left l.start-iterator.bytes.now l.start-iterator.at ≡ places_left l.input at))
+    × (l.filled ≤ 65000)
+    × (length l.out ≡ 65536)

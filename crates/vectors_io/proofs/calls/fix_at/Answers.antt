@@ -1,8 +1,4 @@
 -- `vectors_io::calls::fix_at` is proved: no float of a reply is a NaN, so that both have bits of their own.
-use borrow.Author.Rules.{rules}
-use mathlib.Core.Bool.{not}
-use lib.Dec.{T}
-use lib.Ieee.{is_nan}
 use Rattle.fixes.proofs.Promises.{numbers}
 use Rattle.vectors_io.proofs.calls.fix_at.Goals as goal
 

@@ -1,10 +1,7 @@
 -- `replies::write_numbers` meets its contract: a line has at most 21 bytes for each number.
-use Prim.Native.Nat.{◌*◌, ◌≤◌}
 use native.Mathlib.Omega.{arith}
-use lib.ListN.{length, length-take, length-drop}
-use Rattle.fields.specs.Line.{fields_line}
+use lib.ListN.{length-take, length-drop}
 use Rattle.fields.proofs.Codec.{line_bound}
-use borrow.Author.Rules.{rules}
 use Rattle.vectors_io.proofs.replies.write_numbers.Goals as goal
 
 pub write-requires : goal.write-requires

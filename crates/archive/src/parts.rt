@@ -1,4 +1,4 @@
-// The parts of an archive, each up to its byte 10, and the runs in them.
+// The parts of an archive, each up to its byte 10: where they stand, and the runs in them, one after the other.
 ghost use Rattle.std.specs.Prelude.{◌≡◌, ◌+◌, ◌<◌, ◌≤◌, ◌==◌, length, drop, position};
 ghost use Rattle.lines.specs.ReadLine.{read_of};
 ghost use Rattle.std.specs.Iterator.{YieldsFirst, item_count};
@@ -60,7 +60,7 @@ pub fn next_run(archive: &[u8], at: usize) -> NextRun
     }
 }
 
-// The places of the parts of some bytes, one after the other.
+// Gives the place of each part, from the one that starts at `at` on.
 #[derive(Drop)]
 pub struct Places<'a> {
     bytes: &'a [u8],
@@ -85,6 +85,7 @@ impl<'a> Iterator for Places<'a> {
     }
 }
 
+// The places of the parts of any bytes.
 pub fn places_of<'a>(bytes: &'a [u8]) -> Places<'a>
     ensures bytes { result.bytes.now ≡ bytes.now }
     ensures at { result.at ≡ 0 }
@@ -92,7 +93,7 @@ pub fn places_of<'a>(bytes: &'a [u8]) -> Places<'a>
     Places { bytes, at: 0 }
 }
 
-// The runs of an accepted archive, one after the other.
+// Gives the run of each line of the rest, of which none is refused.
 #[derive(Drop)]
 pub struct Runs<'a> {
     rest: &'a [u8],
@@ -117,6 +118,7 @@ impl<'a> Iterator for Runs<'a> {
     }
 }
 
+// The runs of an accepted archive, none of which is checked again.
 #[tactic(auto, using(crate::proofs::Walking::all_read))]
 pub fn runs_of<'a>(archive: &'a [u8]) -> Runs<'a>
     requires { (check_of archive.now).refusal ≡ 0 }

@@ -1,11 +1,11 @@
--- The crates above cite `Splitting`, `Folding`, `Checking`, `Runs` and `Examples` too.
+-- The crates above cite `Splitting`, `Checking`, `Walking` and `Examples` too.
 pub mod Splitting
-pub mod Folding
+mod Folding
 mod Twins
 mod Chaining
 pub mod Checking
 mod TwinRefusal
-pub mod Runs
+mod Runs
 pub mod Walking
 mod LineByLine
 pub mod Examples

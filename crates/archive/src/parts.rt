@@ -119,6 +119,7 @@ impl<'a> Iterator for Runs<'a> {
 }
 
 // The runs of an accepted archive, none of which is checked again.
+// That the archive is accepted is a clause and no type, as for a generator in `generator::kinds`.
 #[tactic(auto, using(crate::proofs::Walking::all_read))]
 pub fn runs_of<'a>(archive: &'a [u8]) -> Runs<'a>
     requires { (check_of archive.now).refusal ≡ 0 }

@@ -5,7 +5,8 @@ ghost use Rattle.std.specs.Io.KnownBytes.{Appends};
 use std::io::Write;
 
 // Writes to standard output. If that fails, the complaint goes to standard error. Where the bytes that a writer holds are known,
-// all were written if it says so.
+// all were written if it says so. The writers stay two arguments: a struct of two loans would need a clause for each, that it is
+// the same loan after the call.
 pub fn print<W: Write, E: Write>(
     output: &mut W,
     errors: &mut E,

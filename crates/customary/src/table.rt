@@ -1,4 +1,5 @@
-// The customary multipliers: for each width from 3 to 64 the largest odd power of 5 below 2^width.
+// The customary multipliers: for each width from 3 to 64 the largest odd power of 5 below 2^width. Document 01 asks for a
+// constant table.
 ghost use Rattle.std.specs.Prelude.{◌≡◌, ◌≤◌};
 ghost use Rattle.customary.specs.Customary.{customary_of, CustomaryTable};
 

@@ -1,4 +1,4 @@
-// The conditions of the fix call.
+// The conditions of the fix call. Run and fix are the call's own arguments, as C gives them.
 ghost use Rattle.std.specs.Prelude.{◌≡◌};
 ghost use Rattle.refusals.specs.Refusals.{check_number};
 ghost use Rattle.fixes.specs.Fix.{fix_refusal};

@@ -29,7 +29,7 @@ pub enum Kind {
     Prime,
 }
 
-// The kind. Nothing else looks at the width for it.
+// The kind, which C gives by the width. Nothing else looks at the width for it.
 pub fn kind_of(g: Generator) -> Kind
     ensures { KindIs g result }
 {

@@ -1,4 +1,4 @@
-// The conditions of both calls.
+// The conditions of both calls. Run, lanes and lane are the calls' own arguments, as C gives them.
 ghost use Rattle.std.specs.Prelude.{◌≡◌};
 ghost use Rattle.refusals.specs.Refusals.{check_number};
 ghost use Rattle.lanes.specs.Lane.{lane_refusal};

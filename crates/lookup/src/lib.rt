@@ -11,7 +11,7 @@ pub mod location;
 pub mod plain;
 pub mod position;
 
-// The same in plain numbers: the refusal's number, 0 for none; the line of the location or of the refusal; found is 0 for none;
+// The same in plain numbers, for C: the refusal's number, 0 for none; the line of the location or of the refusal; found is 0 for none;
 // zeros beside a refusal.
 #[repr(C)]
 #[derive(Clone, Copy)]

@@ -1,5 +1,5 @@
 // What a program tells where it has nothing to show. Each function that writes does so from the first byte of the buffer on
-// and answers how many bytes it wrote.
+// and answers how many bytes it wrote: there is no heap.
 ghost use Rattle.std.specs.Prelude.{[], ◌∷◌, ◌≤◌, length};
 ghost use Rattle.fields.specs.Line.{fields_line};
 ghost use Rattle.fields.specs.Codec.{FrontWritten};

@@ -1,4 +1,5 @@
-// Functions that choose by kind. All they ask is that the generator is accepted, and of low places that it has as many.
+// Functions that choose by kind. All they ask is that the generator is accepted, and of low places that it has as many: by
+// clauses, as in `generator::kinds`.
 ghost use Rattle.std.specs.Prelude.{◌≡◌, ◌≤◌};
 ghost use Rattle.sequences.specs.Orbit.{OrbitIs};
 ghost use Rattle.sequences.specs.Occurrences.{low, IndicesAre};

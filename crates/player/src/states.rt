@@ -14,7 +14,7 @@ pub fn moved(player: Player, position: u64) -> Player
 }
 
 // A record that is lent: the callee has it by value, and the record that it leaves is stored unless it refuses. Gives the refusal's
-// number, 0 for none.
+// number, 0 for none, as C is told.
 pub fn lent<A, F: FnOnce(Player, A) -> Result<Player, Refusal>>(
     player: &mut Player,
     argument: A,

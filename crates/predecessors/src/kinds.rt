@@ -1,4 +1,4 @@
-// Functions that choose by kind. All they ask is that the generator is accepted.
+// Functions that choose by kind. All they ask is that the generator is accepted, by a clause, as in `generator::kinds`.
 ghost use Rattle.std.specs.Prelude.{◌≡◌};
 ghost use Rattle.generator.specs.Check.{refusal_of};
 ghost use Rattle.predecessors.specs.Predecessor.{value_out_of_range, predecessor_refusal, OnlyPredecessor};

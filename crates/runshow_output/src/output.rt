@@ -25,6 +25,7 @@ pub fn print_outcome<W: Write, E: Write>(
     }
 }
 
+// Each program has its complaint, so that what prints stands in each; what they share is `print` and `write_notice`.
 fn print_notice<W: Write, E: Write>(output: &mut W, errors: &mut E, notice: Notice) -> Option<u64>
     ensures { ShownPromise 0 result }
 {

@@ -27,7 +27,7 @@ pub struct Part {
     pub many: u64,
 }
 
-// How many numbers a chunk has, and how many bytes they take.
+// How many numbers a chunk has, and how many bytes they take: of lent buffers, since there is no heap.
 #[derive(Clone, Copy)]
 pub struct Chunk {
     pub made: usize,

@@ -1,4 +1,5 @@
-// The text of the summary. Each function writes from the first byte of the buffer on and answers how many bytes it wrote.
+// The text of the summary. Each function writes from the first byte of the buffer on and answers how many bytes it wrote: there
+// is no heap.
 ghost use Rattle.std.specs.Prelude.{◌≡◌, ◌≤◌, length};
 ghost use Rattle.fields.specs.Codec.{FrontWritten};
 ghost use Rattle.runs.specs.Run.{run_refusal};

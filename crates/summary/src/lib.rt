@@ -10,7 +10,7 @@ pub use totals::Totals;
 pub mod plain;
 pub mod totals;
 
-// The same in plain numbers: the refusal's number, 0 for none, and its line; zeros beside a refusal.
+// The same in plain numbers, for C: the refusal's number, 0 for none, and its line; zeros beside a refusal.
 #[repr(C)]
 #[derive(Clone, Copy)]
 pub struct SummaryReply {

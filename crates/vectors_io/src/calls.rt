@@ -13,7 +13,8 @@ use orbits::{IndexReply, OrbitReply};
 use refusals::{Refusal, ValueReply};
 use runs::Run;
 
-// Writes the reply to a call at `at`, `?` where it has too few or too many numbers, and gives the place behind it.
+// Writes the reply to a call at `at`, `?` where it has too few or too many numbers, and gives the place behind it. A
+// match and no table, since the functions have different types.
 pub fn reply(letter: u8, n: &[u64], out: &mut [u8], at: usize) -> usize
     requires { at + 357 ≤ length out.old }
     ensures { result ≤ at + 357 }

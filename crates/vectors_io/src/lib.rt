@@ -33,7 +33,7 @@ fn answer_input(rt: &(impl Input + Print), space: &mut [u8; 1600000]) {
     answer_all(&mut output, input);
 }
 
-// Writes the reply to each line.
+// Writes the reply to each line. There is no heap: the replies gather in a fixed room.
 fn answer_all<W: Write>(output: &mut W, input: &[u8]) {
     let mut out = [0u8; 65536];
     let mut filled = 0;

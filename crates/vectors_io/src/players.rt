@@ -29,7 +29,7 @@ fn made(calls: &[u64], run: Run, player: &mut Player) -> ValueReply {
     last
 }
 
-// One call, by its number.
+// One call, by its number. A match and no table, since the functions have different types.
 fn called(player: &mut Player, run: Run, call: u64, argument: u64) -> ValueReply {
     match call {
         0 => silent(lent(player, run, opened)),

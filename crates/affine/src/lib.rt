@@ -47,7 +47,7 @@ pub struct Progress {
 }
 
 // What the lowest bit of the index left asks for: the stride, or no step. The map is chosen and not the product, so that the
-// choice is off the chain of products and compiles without a branch.
+// choice is off the chain of products and compiles without a branch. `powers` has the like for a number: one expression each.
 fn selected(p: Progress) -> Affine
     ensures { result ≡ selected_of p }
 {
@@ -123,7 +123,7 @@ fn finish(a: u64, c: u64, factor: u64, offset: u64, left: u64) -> Affine
     rest
 }
 
-// The map of i steps of "times a, plus c". No step takes no round.
+// The map of i steps of "times a, plus c", two numbers as the note for the firmware has them. No step takes no round.
 pub fn jump(a: u64, c: u64, i: u64) -> Affine
     ensures { Jumps a c i result }
 {

@@ -16,7 +16,7 @@ use lines::read_line;
 use refusals::Refusal;
 use runs::Run;
 
-// Whether the line of that run, from `at` to `end`, equals one in the chains. It is added to them.
+// Whether the line of that run, from `at` to `end`, equals one in the chains. It is added to them. Both as `chains` takes them.
 pub fn line_seen(archive: &[u8], at: usize, end: usize, run: Run, chains: &mut Chains<'_>) -> bool
     requires archive_len_bound { length archive.now ≤ 65536 }
     requires at_le_end { at ≤ end }
@@ -43,7 +43,9 @@ fn read_numbered(bytes: &[u8], line: u64) -> Result<Run, LineRefusal>
 pub fn lines_checked(archive: &[u8], chains: &mut Chains<'_>) -> Result<(), LineRefusal>
     requires archive_len_bound { length archive.now ≤ 65536 }
     requires chained { Chained archive.now 0 chains.old.head.now chains.old.next.now [] }
-    ensures { CheckPromise archive.now (plain_check result) }
+    ensures promise { CheckPromise archive.now (plain_check result) }
+    ensures same_head { chains.new.head.ghost_name ≡ chains.old.head.ghost_name }
+    ensures same_next { chains.new.next.ghost_name ≡ chains.old.next.ghost_name }
 {
     for (Place { start, end }, line) in places_of(archive).zip(1..) {
         let run = read_numbered(&archive[start..end], line)?;

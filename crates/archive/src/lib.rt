@@ -10,7 +10,7 @@ use refusals::Refusal;
 pub mod checks;
 pub mod parts;
 
-// Why an archive declines, and in which line: 0 beside 1 and 10.
+// Why an archive declines, and in which line: 0 beside 1 and 10, as C and the programs tell it.
 #[derive(Clone, Copy)]
 pub struct LineRefusal {
     pub refusal: Refusal,

@@ -34,6 +34,7 @@ struct LastRead {
 
 // What was read of an input: the bytes, what follows them, and how many there was room for. What it says is what the last read
 // gave, which is private, so that no other crate can make one up; where more may follow, the room is full.
+// `rest` is no flag beside the bytes: what was read before a read failed is spoken of too (`ReadOf`).
 #[derive(Clone, Copy)]
 pub struct Input<'a> {
     pub bytes: &'a [u8],
@@ -96,6 +97,7 @@ pub fn not_read(buf: &[u8]) -> Input<'_>
 }
 
 // Reads until the buffer is full, the input ends or a read fails. The input may come in pieces.
+// std's own takes a Vec, and there is no heap.
 fn read_to_end<'a, R: Read>(source: &mut R, buf: &'a mut [u8]) -> Input<'a>
     requires { 0 < length buf.old }
     ensures { result.room ≡ length buf.old }

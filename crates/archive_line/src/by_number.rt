@@ -1,4 +1,4 @@
-// The part of a line.
+// The part of a line of an accepted archive, which is asked for by a clause, as in `archive::parts`.
 ghost use Rattle.std.specs.Prelude.{◌≡◌, ◌<◌, IfSome};
 ghost use Rattle.archive.specs.Check.{check_of};
 ghost use Rattle.archive_line.specs.Line.{plain_part, PartPromise};

@@ -36,7 +36,8 @@ impl<'a> Chains<'a> {
         false
     }
 
-    // Whether the part from `at` to `end` stands in its slot already. It becomes the newest there.
+    // Whether the part from `at` to `end` stands in its slot already. It becomes the newest there. The type of a place, start and end,
+    // lies above, in `archive`; no archive is longer than the bound, so that a link fits 16 bits.
     pub fn seen_before(&mut self, bytes: &[u8], at: usize, end: usize, slot: usize) -> bool
         requires at_bound { at + 12 ≤ end }
         requires end_in_bounds { end ≤ length bytes.now }

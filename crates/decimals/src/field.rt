@@ -72,7 +72,7 @@ pub fn field_length(v: u64) -> usize
     v.checked_ilog10().unwrap_or(0) as usize + 1
 }
 
-// Writes the field of `v` at `at`, with its delimiter, and answers the index behind it.
+// Writes the field of `v` at `at`, with its delimiter, and answers the index behind it: there is no heap.
 pub fn write_field(buf: &mut [u8], at: usize, v: u64, delimiter: u8) -> usize
     requires { at + length (digits_of v) + 1 ≤ length buf.old }
     ensures { Written buf.old buf.new at v delimiter result }

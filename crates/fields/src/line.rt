@@ -45,7 +45,7 @@ pub fn length(numbers: &[u64]) -> usize
     numbers.iter().map(|&number| field_length(number) + 1).sum()
 }
 
-// Writes the line of some numbers to the front of a buffer, and gives the number of bytes.
+// Writes the line of some numbers to the front of a buffer, and gives the number of bytes: there is no heap.
 pub fn write(buf: &mut [u8], numbers: &[u64]) -> usize
     requires { length (fields_line numbers.now) ≤ length buf.old }
     ensures { FrontWritten (fields_line numbers.now) buf.old buf.new result }

@@ -7,7 +7,7 @@ use crate::Fix;
 use generator::kinds::{next_of, value_of};
 use runs::Run;
 
-// How many bits of an element are kept.
+// How many bits of an element are kept, under the definition's name.
 fn places_of(width: u64) -> u64
     ensures { result ≡ places_of width }
 {

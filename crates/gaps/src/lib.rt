@@ -22,7 +22,7 @@ pub struct GapReply {
     pub steps: i64,
 }
 
-// The conditions of the gap call.
+// The conditions of the gap call, joined as docs/DECISIONS.md has it.
 #[tactic(auto, unfolding(crate::specs::Gap::gap_refusal))]
 fn gap_checked(g: Generator) -> Result<(), Refusal>
     ensures { check_number result ≡ gap_refusal g }

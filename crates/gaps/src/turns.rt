@@ -1,4 +1,5 @@
-// Steps between two indices of a sequence that goes round, whatever its period.
+// Steps between two indices of a sequence that goes round, whatever its period. `last` is the period less 1, a number and no type:
+// docs/DECISIONS.md names `ahead` with it.
 ghost use Rattle.std.specs.Prelude.{◌≡◌, suc, ◌≤◌};
 ghost use Rattle.sequences.specs.Gap.{Ahead, signed_of};
 

@@ -1,4 +1,4 @@
-// An accepted lane as a run.
+// An accepted lane as a run; that it is accepted is asked for, by a clause as in `generator::kinds`.
 ghost use Rattle.std.specs.Prelude.{◌≡◌, ◌<◌};
 ghost use Rattle.affine.specs.Affine.{Walks};
 ghost use Rattle.generator.specs.Linear.{Linear};

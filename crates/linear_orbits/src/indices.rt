@@ -1,4 +1,4 @@
-// The indices of a number, in the low places.
+// The indices of a number, in the low places. `Linear`, and an odd multiplier, are asked for by clauses, as in `generator::kinds`.
 ghost use Rattle.std.specs.Prelude.{◌≡◌, ◌+◌, ◌*◌, ◌%◌, ◌^◌, ◌<◌, ◌≤◌};
 ghost use Rattle.generator.specs.Recurrence.{modulus, element};
 ghost use Rattle.generator.specs.Linear.{Linear};

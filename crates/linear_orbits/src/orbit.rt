@@ -1,4 +1,4 @@
-// The orbit.
+// The orbit. `Linear` is asked for by a clause, as in `generator::kinds`.
 ghost use Rattle.std.specs.Prelude.{◌≡◌, ◌+◌, ◌%◌, ◌<◌, ◌≤◌};
 ghost use Rattle.sequences.specs.Orbit.{IsOrbit, OrbitIs};
 ghost use Rattle.generator.specs.Recurrence.{modulus, element};

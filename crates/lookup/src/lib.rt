@@ -14,7 +14,7 @@ pub mod position;
 // The same in plain numbers, for C: the refusal's number, 0 for none; the line of the location or of the refusal; found is 0 for none;
 // zeros beside a refusal.
 #[repr(C)]
-#[derive(Clone, Copy)]
+#[derive(Clone, Copy, Default)]
 pub struct LookupReply {
     pub refusal: u64,
     pub line: u64,

@@ -1,4 +1,4 @@
-// Locations in an accepted archive.
+// Locations in an accepted archive, which is asked for by a clause, as in `archive::parts`.
 ghost use Rattle.std.specs.Prelude.{◌≡◌};
 ghost use Rattle.archive.specs.Archive.{runs_in};
 ghost use Rattle.archive.specs.Check.{check_of};

@@ -17,17 +17,11 @@ impl From<Result<Option<Location>, LineRefusal>> for LookupReply {
                 found: 1,
                 position,
             },
-            Ok(None) => LookupReply {
-                refusal: 0,
-                line: 0,
-                found: 0,
-                position: 0,
-            },
+            Ok(None) => LookupReply::default(),
             Err(declined) => LookupReply {
                 refusal: number(declined.refusal),
                 line: declined.line,
-                found: 0,
-                position: 0,
+                ..LookupReply::default()
             },
         }
     }

@@ -1,4 +1,4 @@
-// Where one run shows a number.
+// Where one run shows a number. That it is accepted is asked for, by a clause as in `generator::kinds`.
 ghost use Rattle.std.specs.Prelude.{◌≡◌, ◌<◌, SomeIff};
 ghost use Rattle.runs.specs.Run.{run_refusal};
 ghost use Rattle.lookup.specs.Lookup.{position_of};

@@ -14,6 +14,7 @@ use sequences::Indices;
 
 pub mod plain;
 
+// As `sequences::Indices`, but with the exponent of the period, as the call tells it, in place of the period less 1.
 #[derive(Clone, Copy)]
 pub enum PlacesAnswer {
     Once(u64),

@@ -1,4 +1,4 @@
-// A step back of the linear kind.
+// A step back of the linear kind, which is asked for, by a clause as in `generator::kinds`.
 ghost use Rattle.std.specs.Prelude.{◌≡◌, ◌+◌, ◌%◌, ◌^◌, ◌<◌};
 ghost use Rattle.predecessors.specs.Predecessor.{OnlyPredecessor};
 ghost use Rattle.generator.specs.Linear.{Linear};

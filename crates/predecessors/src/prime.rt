@@ -1,4 +1,4 @@
-// Predecessors of the prime-modulus models.
+// Predecessors of the prime-modulus models, which are asked for, by a clause as in `generator::kinds`.
 ghost use Rattle.std.specs.Prelude.{◌<◌};
 ghost use Rattle.predecessors.specs.Predecessor.{OnlyPredecessor};
 ghost use Rattle.generator.specs.Prime.{Prime};

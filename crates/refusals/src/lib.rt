@@ -34,14 +34,14 @@ pub struct ValueReply {
     pub value: u64,
 }
 
-// The number of a refusal, for those that show it.
+// The number of a refusal, for those that show it; docs/DEVELOPING.md names it.
 pub fn number(refusal: Refusal) -> u64
     ensures { result ≡ number_of refusal }
 {
     refusal as u64
 }
 
-// Joins two checks: the first refusal counts.
+// Joins two checks: the first refusal counts; docs/DECISIONS.md names it.
 pub fn or_else(first: Result<(), Refusal>, second: Result<(), Refusal>) -> Result<(), Refusal>
     ensures { check_number result ≡ or_else (check_number first) (check_number second) }
 {

@@ -8,6 +8,7 @@ use notices::notice::Notice;
 use refusals::number;
 use runfind_output::output::Outcome;
 
+// A refusal is told by hand: `From` would have to stand in `notices`, which knows no archive.
 #[tactic(auto, using(crate::proofs::Answering::outcome_found, crate::proofs::Answering::outcome_refused))]
 pub fn answer(bytes: &[u8], value: u64) -> Outcome
     ensures { result ≡ outcome_of (lookup_of bytes.now value) }

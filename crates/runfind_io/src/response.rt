@@ -1,5 +1,5 @@
 // What the program `runfind` prints: standard input is read before, and the file if there is a question.
-ghost use Rattle.std.specs.Prelude.{◌≤◌, None, length};
+ghost use Rattle.std.specs.Prelude.{◌≡◌, ◌≤◌, None, length};
 ghost use Rattle.archive_io.specs.Decision.{Answered};
 ghost use Rattle.runfind_answer.specs.Decision.{asked_of, outcome_for};
 
@@ -17,12 +17,13 @@ pub struct Response<'a> {
 }
 
 // The outcome for what was read of standard input. The file is opened, and read into `buf`, only if there is a question.
-// `runshow_io` has these steps too: one function for both needs a trait for a program's question, its outcome and the definitions of
-// both, and an impl of it in each program, so it is no plainer than the few lines.
+// `runshow_io` has a like pair: one for both would take two callees with the clauses of each, and the definitions of a question and its
+// outcome, so it is no plainer than the few lines.
 pub fn respond<'a>(rt: &impl Files, input: Input<'_>, buf: &'a mut [u8]) -> Response<'a>
     requires in_bounds { 22 ≤ input.room }
     requires in_bounds_2 { 65537 ≤ length buf.old }
-    ensures { Answered asked_of None outcome_for input.entry.bytes.now input.entry.rest result.archive.bytes.now result.archive.rest result.outcome }
+    ensures answered { Answered asked_of None outcome_for input.entry.bytes.now input.entry.rest result.archive.bytes.now result.archive.rest result.outcome }
+    ensures room { result.archive.room ≡ length buf.old }
 {
     let Some(value) = asked(input) else {
         return Response {

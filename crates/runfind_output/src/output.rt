@@ -26,7 +26,7 @@ pub fn print_outcome<W: Write, E: Write>(output: &mut W, errors: &mut E, outcome
     )
 }
 
-// Writes it from the first byte of the buffer on and answers how many bytes it wrote.
+// Writes it from the first byte of the buffer on and answers how many bytes it wrote: there is no heap.
 pub fn write_outcome(buf: &mut [u8], outcome: Outcome) -> usize
     requires { 64 ≤ length buf.old }
     ensures { FrontWritten (outcome_line outcome) buf.old buf.new result }

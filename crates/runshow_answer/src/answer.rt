@@ -22,7 +22,8 @@ pub fn part_of_run(run: Run, first: u64, many: u64) -> Outcome
     Ok(Part { run, first, many })
 }
 
-// The archive is checked once: the line asked for is one of its lines, or it is not there.
+// The archive is checked once: the line asked for is one of its lines, or it is not there. A refusal is told
+// by hand: `From` would have to stand in `notices`, which knows no archive.
 #[tactic(auto, using(crate::proofs::Answering::answer_refused))]
 pub fn answer(bytes: &[u8], question: Question) -> Outcome
     ensures { result ≡ outcome_of bytes.now question.line question.first question.many }

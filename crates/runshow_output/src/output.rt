@@ -44,7 +44,8 @@ fn print_part<W: Write, E: Write>(output: &mut W, errors: &mut E, part: Part) ->
     print_chunks(output, errors, part, &mut numbers, &mut buf)
 }
 
-// Prints the numbers, a chunk at a time, up to the last one asked for or the run's end, or until they can't be written.
+// Prints the numbers, a chunk at a time, up to the last one asked for or the run's end, or until they can't be written. It goes
+// on by as many as the chunk made.
 fn print_chunks<W: Write, E: Write>(
     output: &mut W,
     errors: &mut E,

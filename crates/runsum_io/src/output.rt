@@ -25,7 +25,7 @@ pub fn print_output<W: Write, E: Write>(output: &mut W, errors: &mut E, archive:
     );
 }
 
-// Writes it from the first byte of the buffer on and answers how many bytes it wrote. An archive has at most 65,536 bytes,
+// Writes it from the first byte of the buffer on and answers how many bytes it wrote: there is no heap. An archive has at most 65,536 bytes,
 // so 65,537 show that it is too long; the text has at most twice as many bytes as the archive and 27 more.
 #[tactic(auto, using(crate::proofs::Deciding::output_read, crate::proofs::Deciding::output_unread))]
 pub fn write_output(buf: &mut [u8], archive: Input<'_>) -> usize
@@ -39,7 +39,8 @@ pub fn write_output(buf: &mut [u8], archive: Input<'_>) -> usize
     }
 }
 
-// The same for a file of these bytes. The summary is made first, so that its total is known.
+// The same for a file of these bytes. The summary is made first, so that its total is known. A refusal is told by hand, as
+// in `runshow_answer`.
 fn write_answer(buf: &mut [u8], archive: &[u8]) -> usize
     requires { 131099 ≤ length buf.old }
     ensures { FrontWritten (output_of archive.now) buf.old buf.new result }

@@ -1,5 +1,5 @@
 // The text of the summary. Each function writes from the first byte of the buffer on and answers how many bytes it wrote: there
-// is no heap.
+// is no heap. Runs and archive are accepted, by clauses as in `archive::parts`.
 ghost use Rattle.std.specs.Prelude.{◌≡◌, ◌≤◌, length};
 ghost use Rattle.fields.specs.Codec.{FrontWritten};
 ghost use Rattle.runs.specs.Run.{run_refusal};

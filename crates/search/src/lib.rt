@@ -9,7 +9,7 @@ use words::{alpha, wrapping_mul};
 pub mod period;
 
 // How many places were settled; the least index that agrees in them, and the exponent of the period in them.
-// `places` is no flag beside a value: a search that stops early has settled that many, and the rest holds in them.
+// `places` is no flag beside a value: a search that stops early has settled that many, and of the rest `Settling` speaks then too.
 #[derive(Clone, Copy)]
 pub struct Settled {
     pub places: u64,

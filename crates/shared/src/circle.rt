@@ -1,4 +1,5 @@
-// Places on a circle of last + 1 places, whatever their number: the period may be 2^64, which no word holds.
+// Places on a circle of last + 1 places, whatever their number: the period may be 2^64, which no word holds. `last` is
+// a number and no type, as in `gaps::turns`.
 ghost use Rattle.std.specs.Prelude.{◌≡◌, suc, ◌+◌, ◌-◌, ◌≤◌, min};
 ghost use Rattle.words.specs.Congruence.{Congruent};
 ghost use Rattle.sequences.specs.Common.{arcs_share};
@@ -13,7 +14,7 @@ pub fn place(index: u64, last: u64) -> u64
     index % (last + 1)
 }
 
-// How many places that many in a row have: once round they come again.
+// How many places that many in a row have: once round they come again. A name for one expression, as the definition speaks of it.
 fn places(count: u64, last: u64) -> u64
     ensures { result ≡ min count (suc last) }
 {

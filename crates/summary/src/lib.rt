@@ -12,7 +12,7 @@ pub mod totals;
 
 // The same in plain numbers, for C: the refusal's number, 0 for none, and its line; zeros beside a refusal.
 #[repr(C)]
-#[derive(Clone, Copy)]
+#[derive(Clone, Copy, Default)]
 pub struct SummaryReply {
     pub refusal: u64,
     pub line: u64,

@@ -12,16 +12,14 @@ impl From<Result<Totals, LineRefusal>> for SummaryReply {
     fn from(answer: Result<Totals, LineRefusal>) -> SummaryReply {
         match answer {
             Ok(Totals { line_count, total }) => SummaryReply {
-                refusal: 0,
-                line: 0,
                 line_count,
                 total,
+                ..SummaryReply::default()
             },
             Err(declined) => SummaryReply {
                 refusal: number(declined.refusal),
                 line: declined.line,
-                line_count: 0,
-                total: 0,
+                ..SummaryReply::default()
             },
         }
     }

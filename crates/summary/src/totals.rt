@@ -1,4 +1,4 @@
-// The total of an accepted archive's counts.
+// The total of an accepted archive's counts; that it is accepted is asked for by a clause, as in `archive::parts`.
 ghost use Rattle.std.specs.Prelude.{◌≡◌};
 ghost use Rattle.archive.specs.Archive.{runs_in};
 ghost use Rattle.archive.specs.Check.{check_of};

@@ -1,4 +1,4 @@
-// The variety of a run that is known to be accepted.
+// The variety of a run that is known to be accepted, by a clause as in `generator::kinds`.
 ghost use Rattle.std.specs.Prelude.{◌≡◌};
 ghost use Rattle.runs.specs.Run.{run_refusal};
 ghost use Rattle.variety.specs.Variety.{variety_of};

@@ -1,4 +1,4 @@
-// Replies and their lines.
+// Replies and their lines, written into a lent room from a place on: there is no heap.
 ghost use Rattle.std.specs.Prelude.{◌≡◌, ◌+◌, ◌*◌, ◌≤◌, ◌<◌, length};
 
 use fields::line;

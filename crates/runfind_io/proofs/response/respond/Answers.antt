@@ -4,8 +4,8 @@ use Rattle.archive_io.proofs.Deciding.{answered_none, answered}
 use Rattle.runfind_answer.proofs.Deciding.{number_some}
 use Rattle.runfind_io.proofs.response.respond.Goals as goal
 
-pub returns-in_default : goal.returns-in_default
-returns-in_default g c = answered_none c.asked.ensures c.in_default.is (λ file. refl)
+pub returns-in_default-clause-answered : goal.returns-in_default-clause-answered
+returns-in_default-clause-answered g c = answered_none c.asked.ensures c.in_default.is (λ file. refl)
 
-pub returns : goal.returns
-returns g c = answered c.asked.ensures c.in-Some.is number_some c.decide-outcome.ensures
+pub returns-clause-answered : goal.returns-clause-answered
+returns-clause-answered g c = answered c.asked.ensures c.in-Some.is number_some c.decide-outcome.ensures

@@ -19,7 +19,7 @@ fn jumped(k: u64) -> u64
     if k == 16 { 8 } else { k }
 }
 
-// The map of k steps of "times a, plus c".
+// The map of k steps of "times a, plus c", two numbers as `jump` takes them.
 fn map_of(a: u64, c: u64, k: u64) -> Affine
     ensures { Walks a c k result }
 {

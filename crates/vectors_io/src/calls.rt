@@ -135,7 +135,7 @@ fn write_lane(n: [u64; 9]) -> Option<[u64; 2]> {
     Some(of_one(lanes::write_lane(run_of(&n), n[6], n[7], room)))
 }
 
-// The generator of the first four numbers.
+// The generator of the first four numbers, by their names here: a vector is spelled out, and not by what is tested.
 fn generator_of(n: &[u64]) -> Generator
     requires { 4 ≤ length n.now }
 {

@@ -46,7 +46,7 @@ fn silent(refusal: u64) -> ValueReply {
     ValueReply { refusal, value: 0 }
 }
 
-// The record of the first 15 numbers.
+// The record of the first 15 numbers, spelled out as the generator of a call is.
 fn player_of(n: &[u64]) -> Player
     requires { 15 ≤ length n.now }
 {

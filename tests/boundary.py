@@ -121,7 +121,8 @@ def proved():
         for kind in re.findall(r"\b[A-Z]\w*", f"{parameters} {result}"):
             structs.update(proved_structs(kind, CALLS))
     limit, buffer, refusals = (f"crates/{name}.rt" for name in ("archive/src/lib", "round_trip/src/main", "refusals/src/lib"))
-    constants = c_refusals(re.findall(r"Refusal::(\w+) => (\d+)", source(refusals)))
+    cases = items(only(r"pub enum Refusal \{([^}]*)\}", source(refusals), refusals))
+    constants = c_refusals(matched(r"(\w+) = (\d+)", case, refusals) for case in cases)
     constants["NP_ARCHIVE_MAX"] = only(r"if (\d+) < archive\.len\(\)", source(limit), limit)
     constants["NP_LINE_MAX"] = only(r"buffer = \[0u8; (\d+)\]", source(buffer), buffer)
     return Side("the proved code", structs, functions, constants)

@@ -1,6 +1,6 @@
 -- What a read tells of the bytes read so far, and, for the functions behind the decision, how many bytes have to be read where
 -- more may follow.
-use Rattle.std.specs.Prelude.{◌≡◌, ℕ, zero, suc, ◌+◌, ◌-◌, ◌≤◌, min, Option, None, Some, Result, Ok, Err}
+use Rattle.std.specs.Prelude.{◌≡◌, Bool, true, false, ℕ, zero, suc, ◌+◌, ◌-◌, ◌≤◌, ◌<◌, min, Option, None, Some, Result, Ok, Err}
 use Rattle.archive_io.specs.declared.input.Reading.{Reading}
 use Rattle.archive_io.specs.declared.input.LastRead.{LastRead}
 use Rattle.archive_io.specs.declared.input.Rest.{Rest}
@@ -33,3 +33,8 @@ After size last = last.reading ≡ reading_after last.before last.got (size - la
 -- where more may follow, n is at least as many as are needed
 abbrev pub Enough : ℕ → ℕ → Rest → Type 0
 Enough needed n rest = rest ≡ Unknown → needed ≤ n
+
+-- whether to read on: something may follow, and there is room for it
+pub record GoesOn (size : ℕ) (reading : Reading) (answer : Bool) : Type 0 where
+  pub room : answer ≡ true → (reading.rest ≡ Unknown) × (reading.n < size)
+  pub done : answer ≡ false → Enough size reading.n reading.rest

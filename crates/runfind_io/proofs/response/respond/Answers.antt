@@ -8,4 +8,6 @@ pub returns-in_default-clause-answered : goal.returns-in_default-clause-answered
 returns-in_default-clause-answered g c = answered_none c.asked.ensures c.in_default.is (λ file. refl)
 
 pub returns-clause-answered : goal.returns-clause-answered
-returns-clause-answered g c = answered c.asked.ensures c.in-Some.is number_some c.decide-outcome.ensures
+returns-clause-answered g c =
+    let front = c.of.ensures in
+    answered c.asked.ensures c.in-Some.is number_some (rw (front.bytes, front.rest) at c.decide-outcome.ensures)

@@ -42,7 +42,8 @@ fn read_on(s: &[u8], from: usize, delimiter: u8, first: u64) -> Option<Field>
     None
 }
 
-// The digit that a byte stands for.
+// The digit that a byte stands for. Compiled into its callers before they are, so that no byte is chosen for one that stands for none.
+#[inline(always)]
 fn digit(b: u8) -> Option<u64>
     ensures { SomeIff result ((48 ≤ b) × (b < 58)) (b - 48) }
 {

@@ -13,7 +13,9 @@ fn delimiter_before(n: usize) -> u8
 }
 
 // Reads a line of as many fields as there are numbers, and tells whether the bytes are one. The room is the caller's, since
-// there is no heap; where the number of fields is known, `read_array` answers them.
+// there is no heap; where the number of fields is known, `read_array` answers them. Compiled into `read_array`, it would keep the
+// numbers in registers, of which there are too few, and take 1.25 of the time.
+#[inline(never)]
 pub fn read(bytes: &[u8], numbers: &mut [u64]) -> bool
     ensures { LineRead bytes.now numbers.old numbers.new result }
 {

@@ -11,6 +11,7 @@ use Rattle.refusals.specs.declared.Refusal.{Refusal}
 use Rattle.refusals.specs.declared.Refusal.TheVariants.{MalformedLine}
 use Rattle.refusals.specs.Refusals.{number_of}
 use Rattle.refusals.proofs.Replies.{number_suc}
+use Rattle.fields.specs.Codec.{LineRead}
 use Rattle.fields.specs.Line.{AllBelow, fields_line, numbers_from, is_line}
 use Rattle.fields.proofs.Numbers.{numbers_line, line_injective, is_line_lem, line_is, no_test}
 use Rattle.runs.specs.declared.Run.{Run}
@@ -138,3 +139,9 @@ module _ (bytes : List ℕ) {run : Run} (l : (is_line 6 bytes ≡ true) × (run 
 -- and bytes that are known to be an accepted line are one
 pub known_line : (bytes : List ℕ) → (read_of bytes).refusal ≡ 0 → is_line 6 bytes ≡ false → ⊥
 known_line bytes z f = true≢false (sym (accepted_is_line bytes z) ∙ f)
+
+-- and the numbers read of them are those of its run
+pub read_known : {bytes before numbers : List ℕ} {answer : Bool} → LineRead bytes before numbers answer → length before ≡ 6 → {run : Run} →
+    (read_of bytes).refusal ≡ 0 → run ≡ run_of numbers → run ≡ run_in bytes
+read_known {bytes} l room z e =
+    e ∙ ap run_of (l.numbers (l.is_line_lem ∙ ap (λ (n : ℕ). is_line n bytes) room ∙ accepted_is_line bytes z))

@@ -51,15 +51,15 @@ module _ {g : Generator} {once : Affine} {v w next : ℕ} (pre : (Linear g) × (
       d.above m (le_trans l pre.0.width_high)
       ((same_trans (same_lower m l (one_held pre.0 eo en)) a.places).same ∙ ap (λ (u : ℕ). u % 2 ^ m) (element_start g))
 
-  resting_orbit : g.width ≤ w → IsOrbit (element g) 0 1
+  pub resting_orbit : g.width ≤ w → (0 ≤ g.width) × IsOrbit (element g) 0 1
   resting_orbit l =
-      (rest_orbit (scaling_contracting sc) (reduced pre.0)
+      rest_orbit (scaling_contracting sc) (reduced pre.0)
       (record {
         rest = reduced_eq (reduced pre.0) 1 0 (one_agrees (le_refl g.width) l);
         moves = λ i h. absurd (omega arith);
-      })).1
+      })
 
-  moving_orbit : w < g.width → ((g.width - w + v - 1) / v ≤ g.width) × IsOrbit (element g) ((g.width - w + v - 1) / v) 1
+  pub moving_orbit : w < g.width → ((g.width - w + v - 1) / v ≤ g.width) × IsOrbit (element g) ((g.width - w + v - 1) / v) 1
   moving_orbit l =
       rest_orbit (scaling_contracting sc) (reduced pre.0)
       (scaled_rests sc l
@@ -80,7 +80,7 @@ module _ {g : Generator} {once : Affine} {v w next : ℕ} (pre : (Linear g) × (
       moves l = rw (sym up) (moving_orbit l)
 
       at_rest : g.width ≤ w → (t ≤ g.width) × IsOrbit (element g) t 1
-      at_rest l = let z : t ≡ 0 = e ∙ rw (let q : g.width - w ≡ 0 = omega arith in q) (omega arith) in rw z (omega arith, resting_orbit l)
+      at_rest l = let z : t ≡ 0 = e ∙ rw (let q : g.width - w ≡ 0 = omega arith in q) (omega arith) in rw z (resting_orbit l)
 
 -- room below the modulus for both
 module _ {g : Generator} (lin : Linear g) where

@@ -14,7 +14,7 @@ use words::bits::ones;
 use words::{alpha, first_difference};
 
 // The preperiod, for an even multiplier. Neighbours first differ v places higher at each step, v the zeros below the
-// multiplier's lowest one bit, until all n places agree.
+// multiplier's lowest one bit, until all n places agree. Where they do from the start there is no quotient to wait for.
 pub fn preperiod(g: Generator) -> u64
     requires { (Linear g) × (g.multiplier % 2 ≡ 0) }
     ensures { (result ≤ g.width) × IsOrbit (element g) result 1 }
@@ -22,6 +22,9 @@ pub fn preperiod(g: Generator) -> u64
     let place = first_difference(value_at(once(g), g.seed), g.seed);
     let left = g.width.saturating_sub(place);
     let v = alpha(g.multiplier);
+    if left == 0 {
+        return 0;
+    }
     left.div_ceil(v)
 }
 

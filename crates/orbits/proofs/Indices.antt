@@ -26,7 +26,7 @@ index_refused g y r e =
       prime = λ z. absurd (number_nonzero r z);
     }
 
-index_found : (g : Generator) (y : ℕ) {k : ℕ} → refusal_of g ≡ 0 → Located (element g) y (modulus g) k →
+pub index_found : (g : Generator) (y : ℕ) {k : ℕ} → refusal_of g ≡ 0 → Located (element g) y (modulus g) k →
     IndexPromise g y (plain_index (Ok (Some k)))
 index_found g y {k} z h =
     record {
@@ -35,7 +35,7 @@ index_found g y {k} z h =
       prime = λ q w. (λ f. prime_range (accepted_kind g w z) k h.yields, λ r. refl);
     }
 
-index_never : (g : Generator) (y : ℕ) → refusal_of g ≡ 0 → Absent (element g) y → IndexPromise g y (plain_index (Ok None))
+pub index_never : (g : Generator) (y : ℕ) → refusal_of g ≡ 0 → Absent (element g) y → IndexPromise g y (plain_index (Ok None))
 index_never g y z h =
     record {
       equals = rw (z, absent_is h (modulus g), le-ltb (modulus g) (modulus g) (le_refl _));

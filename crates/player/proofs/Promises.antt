@@ -1,13 +1,13 @@
 -- The ways out of a call. What an accepted call leaves of the record stands for what the plain player would be: each field is
 -- changed alike, and a mark that is returned to is set. A declined call leaves the record, so the plain player too.
 use mathlib.Core.Path.{◌≡◌, refl, sym, ap, subst, ◌∙◌}
-use mathlib.Core.Bool.{Bool, true, false, cond}
+use mathlib.Core.Bool.{Bool, true, false, cond, not}
 use mathlib.Core.List.{List, [], ◌∷◌, map}
 use mathlib.Core.Option
 use mathlib.Core.Option.{Option, none}
 use Prim.Native.Nat.{ℕ, zero, suc, ◌+◌, ◌≤◌, ◌<◌}
 use native.Mathlib.Omega.{arith}
-use lib.Dec.{leb}
+use lib.Dec.{T, eqb, leb}
 use borrow.Author.Tests.{leb-false, le-leb, lt-leb}
 use lib.ListN.{get_or, set, get_or-map}
 use Rattle.refusals.specs.declared.Refusal.{Refusal}
@@ -103,6 +103,22 @@ module _ (call : Call) (before : Player) (silent : number_shown call (plain_play
       PlayerPromise call before after (told 0)
   accepted_promise z e =
       promised (sym z) (e ∙ ap (λ (n : ℕ). unless_refused n before (fields_changed call before)) (sym z))
+
+-- a refused one keeps the record
+reply_refusal : (n m v : ℕ) → told n ≡ value_reply m v → n ≡ m
+reply_refusal n zero v e = ap (λ (r : ValueReply). r.refusal) e
+reply_refusal n (suc m) v e = ap (λ (r : ValueReply). r.refusal) e
+
+pub refused_keeps : (call : Call) (before after : Player) (n : ℕ) → PlayerPromise call before after (told n) → T (not (eqb n 0)) → after ≡ before
+refused_keeps call before after n p s =
+    p.fields
+    ∙ ap (λ (m : ℕ). unless_refused m before (fields_changed call before))
+    (sym (reply_refusal n (call_refusal call (plain_player before)) (number_shown call (plain_player before)) p.answers))
+    ∙ other n s
+  where
+    other : (m : ℕ) → T (not (eqb m 0)) → unless_refused m before (fields_changed call before) ≡ before
+    other zero z = absurd z
+    other (suc m) z = refl
 
 -- What a record holds that passes the check which comes first.
 pub record Held (player : Player) : Type 0 where

@@ -91,7 +91,8 @@ pub fn returned(player: Player, to: u64) -> Result<Player, Refusal>
     if 3 < to {
         return Err(Refusal::BookmarkInvalid);
     }
-    let target = player.marks[to as usize];
+    let marks = player.marks;
+    let target = marks[to as usize];
     if target.set == 0 {
         return Err(Refusal::BookmarkInvalid);
     }
